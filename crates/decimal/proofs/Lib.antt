@@ -1,0 +1,2 @@
+-- Laws that the proof of write rests on.
+pub mod Laid

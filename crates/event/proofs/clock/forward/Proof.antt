@@ -1,0 +1,46 @@
+-- The two tests are the two cases, in their order; what passes both is the sum.
+use Prim.Native.Nat.{_+_, _-_, _^_}
+use borrow.Author.Needs.{needs}
+use borrow.Author.Tests.{lt-ltb, le-ltb, le-leb, lt-leb}
+use native.Mathlib.Omega.{arith}
+use Rattle.laws.specs.Cases.{outcome-is, none, this, past}
+use Rattle.event.specs.Clock.{difference, forward}
+use Rattle.event.proofs.clock.forward.Statement.{statement}
+use Rattle.event.proofs.clock.forward.Tie as tie
+
+cast-difference : tie.Need-cast-difference
+cast-difference c = search needs
+
+add-difference : tie.Need-add-difference
+add-difference c = search needs
+
+sub-difference : tie.Need-sub-difference
+sub-difference c = search needs
+
+sub-room : tie.Need-sub-room
+sub-room c = search needs
+
+returns : tie.Need-returns
+unfolding forward
+returns c = outcome-is _ (this (le-leb _ _ (c .if1 .taken)))
+
+returns-2 : tie.Need-returns-2
+unfolding forward
+returns-2 c =
+    let time = c .before .before .before .args .time in
+    let next = time + difference time (c .before .before .before .args .tick .0) in
+    outcome-is _ (past (lt-leb _ _ (c .before .if1 .left)) (this (lt-ltb (2 ^ 63 - 1) next (omega arith))))
+
+add-t6 : tie.Need-add-t6
+add-t6 c = search needs
+
+returns-3 : tie.Need-returns-3
+unfolding forward
+returns-3 c =
+    let time = c .before .before .before .args .time in
+    let next = time + difference time (c .before .before .before .args .tick .0) in
+    outcome-is _ (past (lt-leb _ _ (c .before .if1 .left)) (past (le-ltb (2 ^ 63 - 1) next (omega arith)) none))
+
+pub forward-spec : {M : Type 1} → statement M
+forward-spec =
+    tie.close (tie.spec cast-difference add-difference sub-difference sub-room returns returns-2 add-t6 returns-3)

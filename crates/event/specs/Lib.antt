@@ -1,0 +1,3 @@
+-- What the contracts of this crate say, and the laws of true time.
+pub mod Clock
+pub mod Refusals

@@ -1,0 +1,38 @@
+// Ticks, and the true time that they tell.
+ghost use mathlib.Core.Path.{_≡_};
+ghost use Rattle.event.specs.Clock.{forward, momentOf};
+use crate::refusal::Refusal;
+
+// Ticks start again from 0 after 2^32 - 1.
+const WRAP: u64 = 4_294_967_296;
+
+// A forward difference of 2^31 or more is a clock gone back.
+const GONE_BACK: u64 = 2_147_483_648;
+
+// The last true time, 2^63 - 1.
+const LAST: u64 = 9_223_372_036_854_775_807;
+
+// The drive's millisecond counter. A type of its own, so that no turn can stand in its place.
+pub struct Tick(pub u32);
+
+// What a tick gives: why it is refused, or the next true time.
+pub enum Moment {
+    No(Refusal),
+    At(u64),
+}
+
+// The true time that `tick` gives after true time `time`.
+pub fn forward(time: u64, tick: Tick) -> Moment
+    ensures { λ r. ⌜ momentOf r ≡ forward time (tick .0) ⌝ }
+{
+    let low = time % WRAP;
+    let difference = (tick.0 as u64 + WRAP - low) % WRAP;
+    let room = LAST - difference;
+    if GONE_BACK <= difference {
+        return Moment::No(Refusal::ClockGoneBack);
+    }
+    if room < time {
+        return Moment::No(Refusal::TimeSpent);
+    }
+    Moment::At(time + difference)
+}

@@ -1,0 +1,21 @@
+-- `laws::sets::below` meets its contract: from 64 on every set is below `r`, and before that the bits from `r` on are tested.
+use mathlib.Core.Path.{sym, _∙_}
+use borrow.Author.Needs.{needs}
+use borrow.Author.Tests.{le-leb}
+use Rattle.laws.specs.Sets.{below-shift, below-wide}
+use Rattle.laws.proofs.sets.below.Statement.{statement}
+use Rattle.laws.proofs.sets.below.Tie as tie
+
+shr-result : tie.Need-shr-result
+shr-result c = search needs
+
+returns : tie.Need-returns
+returns c =
+    le-leb _ (c .before .args .r) (c .if1 .taken)
+    ∙ sym (below-wide _ (c .before .args .s) (c .before .args .r) (search needs) (c .if1 .taken))
+
+returns-2 : tie.Need-returns-2
+returns-2 c = sym (below-shift (c .before .args .s) (c .before .args .r))
+
+pub below-spec : {M : Type 1} → statement M
+below-spec = tie.close (tie.spec shr-result returns returns-2)

@@ -1,0 +1,142 @@
+-- Numbered cases in the order in which they are looked at, and the first that applies.
+use Prim.Native.Nat.{ℕ, zero, suc, _<_, _≤_}
+use mathlib.Core.Bool.{Bool, true, false, cond, _&&_, false≢true}
+use mathlib.Core.List.{List, [], _∷_}
+use mathlib.Core.Path.{_≡_, refl, ap}
+use native.Mathlib.Nat.{lt-irrefl}
+use native.Mathlib.Omega.{arith}
+use borrow.Author.Tests.{ltb-true, eqb-true, eq-eqb, ne-eqb}
+use lib.Dec.{ltb, eqb}
+use Rattle.laws.specs.Bools.{and-left, and-right}
+
+-- ---- Definitions
+
+-- a case: its number, and whether it applies
+pub record Case : Type 0 where
+  pub number : ℕ
+  pub applies : Bool
+
+-- the case numbered n, which applies when b is true
+abbrev pub when : ℕ → Bool → Case
+when n b = record { number = n; applies = b }
+
+-- the number of the first case that applies, 0 if none does
+unfoldable pub first : List Case → ℕ
+first [] = 0
+first (c ∷ cs) = cond (c .applies) (c .number) (first cs)
+
+-- the numbers ascend, from above k on
+unfoldable pub ascends : ℕ → List Case → Bool
+ascends k [] = true
+ascends k (c ∷ cs) = ltb k (c .number) && ascends (c .number) cs
+
+-- the numbers are positive and ascend
+abbrev pub ascending : List Case → Bool
+ascending cs = ascends 0 cs
+
+-- whether the case numbered n applies; of two so numbered the earlier
+unfoldable pub case : ℕ → List Case → Bool
+case n [] = false
+case n (c ∷ cs) = cond (eqb (c .number) n) (c .applies) (case n cs)
+
+-- what a call answers: the number of its refusal, or its value
+pub data Outcome (A : Type 0) : Type 0 where
+  refused : ℕ → Outcome A
+  fine : A → Outcome A
+
+-- the answer where 0 stands for no refusal
+abbrev pub unless : {A : Type 0} → ℕ → A → Outcome A
+unless zero a = fine a
+unless (suc n) a = refused (suc n)
+
+-- refused by the first case that applies; with none, the value
+unfoldable pub outcome : {A : Type 0} → List Case → A → Outcome A
+outcome cs a = unless (first cs) a
+
+-- ---- The first, step by step: what a chain of tests has found
+
+pub data First : List Case → ℕ → Type 0 where
+  none : First [] 0
+  this : {n : ℕ} {b : Bool} {cs : List Case} → b ≡ true → First (when n b ∷ cs) n
+  past : {n m : ℕ} {b : Bool} {cs : List Case} → b ≡ false → First cs m → First (when n b ∷ cs) m
+
+pub first-is : {cs : List Case} {n : ℕ} → First cs n → n ≡ first cs
+unfolding first
+first-is none = refl
+first-is (this e) = rw e
+first-is (past e r) = rw e (first-is r)
+
+pub outcome-is : {A : Type 0} {cs : List Case} {n : ℕ} (a : A) → First cs n → unless n a ≡ outcome cs a
+unfolding outcome
+outcome-is a r = ap (λ (k : ℕ). unless k a) (first-is r)
+
+-- an accepted answer is the value, and no case refused it
+pub outcome-fine : {A : Type 0} (cs : List Case) (a b : A) → outcome cs a ≡ fine b → (first cs ≡ 0) × (a ≡ b)
+unfolding outcome
+outcome-fine {A} cs a b = go (first cs)
+  where
+    go : (n : ℕ) → unless n a ≡ fine b → (n ≡ 0) × (a ≡ b)
+    go zero e = (refl, cc)
+    go (suc n) e = let z : _≡_ {A = ℕ} 0 1 = cc in absurd (omega arith)
+
+-- ---- In ascending cases the first is the lowest
+
+module _ (k : ℕ) (c : Case) (cs : List Case) (up : ascends k (c ∷ cs) ≡ true) where
+  head-above : k < c .number
+  unfolding ascends
+  head-above = ltb-true k (c .number) (and-left (ltb k (c .number)) (ascends (c .number) cs) up)
+
+  rest-ascends : ascends (c .number) cs ≡ true
+  unfolding ascends
+  rest-ascends = and-right (ltb k (c .number)) (ascends (c .number) cs) up
+
+-- a case that applies is numbered above k
+case-above : (k n : ℕ) (cs : List Case) → ascends k cs ≡ true → case n cs ≡ true → k < n
+unfolding case
+case-above k n [] up e = absurd (false≢true e)
+case-above k n (c ∷ cs) up e = go (eqb (c .number) n) refl e (case-above (c .number) n cs (rest-ascends k c cs up))
+  where
+    go : (b : Bool) → eqb (c .number) n ≡ b → cond b (c .applies) (case n cs) ≡ true → (case n cs ≡ true → c .number < n) → k < n
+    go true q h ih = omega (arith, head-above k c cs up, eqb-true (c .number) n q)
+    go false q h ih = omega (arith, head-above k c cs up, ih h)
+
+-- the first is no higher than any number whose case applies
+pub first-lowest : (k n : ℕ) (cs : List Case) → ascends k cs ≡ true → case n cs ≡ true → first cs ≤ n
+unfolding case first
+first-lowest k n [] up e = absurd (false≢true e)
+first-lowest k n (c ∷ cs) up e =
+    go (eqb (c .number) n) refl (c .applies) e (first-lowest (c .number) n cs (rest-ascends k c cs up))
+  where
+    go :
+        (b : Bool) → eqb (c .number) n ≡ b → (a : Bool) → cond b a (case n cs) ≡ true → (case n cs ≡ true → first cs ≤ n) →
+        cond a (c .number) (first cs) ≤ n
+    go true q true h ih = omega (arith, eqb-true (c .number) n q)
+    go true q false h ih = absurd (false≢true h)
+    go false q true h ih = omega (arith, case-above (c .number) n cs (rest-ascends k c cs up) h)
+    go false q false h ih = ih h
+
+-- the first, where there is one, is the number of a case that applies
+pub first-applies : (k : ℕ) (cs : List Case) → ascends k cs ≡ true → 0 < first cs → case (first cs) cs ≡ true
+unfolding case first
+first-applies k [] up h = absurd (lt-irrefl 0 h)
+first-applies k (c ∷ cs) up h = go (c .applies) refl h (first-applies (c .number) cs (rest-ascends k c cs up))
+  where
+    go :
+        (a : Bool) → c .applies ≡ a → 0 < cond a (c .number) (first cs) → (0 < first cs → case (first cs) cs ≡ true) →
+        cond (eqb (c .number) (cond a (c .number) (first cs))) (c .applies) (case (cond a (c .number) (first cs)) cs) ≡ true
+    go true q h ih = rw (eq-eqb (c .number) (c .number) refl) q
+    go false q h ih =
+        let later : c .number < first cs = case-above (c .number) (first cs) cs (rest-ascends k c cs up) (ih h) in
+        rw (ne-eqb (c .number) (first cs) (λ e. omega (arith, e, later))) (ih h)
+
+-- where there is no first, no case applies
+pub clear : (k n : ℕ) (cs : List Case) → ascends k cs ≡ true → first cs ≡ 0 → case n cs ≡ false
+unfolding case first
+clear k n [] up e = refl
+clear k n (c ∷ cs) up e = go (c .applies) (eqb (c .number) n) e (clear (c .number) n cs (rest-ascends k c cs up))
+  where
+    go :
+        (a b : Bool) → cond a (c .number) (first cs) ≡ 0 → (first cs ≡ 0 → case n cs ≡ false) → cond b a (case n cs) ≡ false
+    go true b q ih = absurd (omega (arith, head-above k c cs up, q))
+    go false true q ih = refl
+    go false false q ih = ih q

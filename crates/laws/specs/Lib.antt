@@ -1,0 +1,7 @@
+-- Laws that mention nothing of drives.
+pub mod Bools
+pub mod Cases
+pub mod Front
+pub mod Lists
+pub mod Reads
+pub mod Sets

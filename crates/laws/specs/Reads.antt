@@ -1,0 +1,14 @@
+-- What a test says, in both directions.
+use mathlib.Core.Bool.{Bool, true, false, true≢false, false≢true}
+use mathlib.Core.Logic.{_↔_}
+use mathlib.Core.Path.{_≡_, refl}
+
+-- the test holds exactly where Holds does, and fails exactly where Fails does
+pub record Reads (test : Bool) (Holds Fails : Type 0) : Type 0 where
+  pub holds : (test ≡ true) ↔ Holds
+  pub fails : (test ≡ false) ↔ Fails
+
+-- one direction of each is enough, since the two cannot both be
+pub reading : {P Q : Type 0} (test : Bool) → (test ≡ true → P) → (test ≡ false → Q) → (P → Q → ⊥) → Reads test P Q
+reading true p q clash = record { holds = (p, λ _. refl); fails = (λ e. absurd (true≢false e), λ y. absurd (clash (p refl) y)) }
+reading false p q clash = record { holds = (λ e. absurd (false≢true e), λ x. absurd (clash x (q refl))); fails = (q, λ _. refl) }
