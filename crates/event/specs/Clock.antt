@@ -5,7 +5,7 @@ use mathlib.Core.Path.{_≡_, refl, sym, ap, _∙_}
 use native.Mathlib.Omega.{arith}
 use borrow.Author.Tests.{le-ltb, lt-leb}
 use lib.Dec.{leb, ltb}
-use Rattle.laws.specs.Cases.{Case, when, Outcome, refused, fine, unless, outcome, outcome-is, outcome-fine, none, this, past}
+use Rattle.laws.specs.Cases.{Case, when, Outcome, refused, fine, outcome, outcome-is, acceptance-tells, none, past}
 use Rattle.event.specs.Refusals.{numberOf}
 use Rattle.event.specs.declared.clock.Moment.{Moment}
 use Rattle.event.specs.declared.clock.Moment.the-variants.{No, At}
@@ -46,7 +46,7 @@ forwards time (tick ∷ ticks) = forward time tick ∷ forwards (after time (for
 pub forward-low : (time tick n : ℕ) → tick < 2 ^ 32 → forward time tick ≡ fine n → n % 2 ^ 32 ≡ tick
 unfolding forward
 forward-low time tick n h e =
-    let sum = outcome-fine (clockCases time tick) (time + difference time tick) n e .1 in
+    let sum = acceptance-tells {B = ℕ} (clockCases time tick) (time + difference time tick) n e .1 in
     omega arith
 
 -- the tick of a real time that is at most 2^31-1 ms on gives that time

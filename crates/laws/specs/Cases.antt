@@ -1,7 +1,7 @@
 -- Numbered cases in the order in which they are looked at, and the first that applies.
 use Prim.Native.Nat.{ℕ, zero, suc, _<_, _≤_}
 use mathlib.Core.Bool.{Bool, true, false, cond, _&&_, false≢true}
-use mathlib.Core.List.{List, [], _∷_}
+use mathlib.Core.List.{List, [], _∷_, _++_}
 use mathlib.Core.Path.{_≡_, refl, ap}
 use native.Mathlib.Nat.{lt-irrefl}
 use native.Mathlib.Omega.{arith}
@@ -53,6 +53,15 @@ unless (suc n) a = refused (suc n)
 unfoldable pub outcome : {A : Type 0} → List Case → A → Outcome A
 outcome cs a = unless (first cs) a
 
+-- the old value where 0 does not stand for no refusal
+abbrev pub keepUnless : {A : Type 0} → ℕ → A → A → A
+keepUnless zero old new = new
+keepUnless (suc n) old new = old
+
+-- what a call leaves: as it was if some case applies, else the new value
+unfoldable pub leaves : {A : Type 0} → List Case → A → A → A
+leaves cs old new = keepUnless (first cs) old new
+
 -- ---- The first, step by step: what a chain of tests has found
 
 pub data First : List Case → ℕ → Type 0 where
@@ -66,18 +75,54 @@ first-is none = refl
 first-is (this e) = rw e
 first-is (past e r) = rw e (first-is r)
 
+-- what a first part finds, the whole list finds
+pub first-front : (cs ds : List Case) → 0 < first cs → first (cs ++ ds) ≡ first cs
+unfolding first
+first-front [] ds h = absurd (lt-irrefl 0 h)
+first-front (c ∷ cs) ds h = go (c .applies) (first-front cs ds) h
+  where
+    go :
+        (a : Bool) → (0 < first cs → first (cs ++ ds) ≡ first cs) → 0 < cond a (c .number) (first cs) →
+        cond a (c .number) (first (cs ++ ds)) ≡ cond a (c .number) (first cs)
+    go true ih h = refl
+    go false ih h = ih h
+
 pub outcome-is : {A : Type 0} {cs : List Case} {n : ℕ} (a : A) → First cs n → unless n a ≡ outcome cs a
 unfolding outcome
 outcome-is a r = ap (λ (k : ℕ). unless k a) (first-is r)
 
--- an accepted answer is the value, and no case refused it
-pub outcome-fine : {A : Type 0} (cs : List Case) (a b : A) → outcome cs a ≡ fine b → (first cs ≡ 0) × (a ≡ b)
-unfolding outcome
-outcome-fine {A} cs a b = go (first cs)
-  where
-    go : (n : ℕ) → unless n a ≡ fine b → (n ≡ 0) × (a ≡ b)
-    go zero e = (refl, cc)
-    go (suc n) e = let z : _≡_ {A = ℕ} 0 1 = cc in absurd (omega arith)
+pub leaves-is : {A : Type 0} {cs : List Case} {n : ℕ} (old new : A) → First cs n → keepUnless n old new ≡ leaves cs old new
+unfolding leaves
+leaves-is old new r = ap (λ (k : ℕ). keepUnless k old new) (first-is r)
+
+-- ---- What one answer tells of another under the same cases
+
+module _ {A B : Type 0} (cs : List Case) (a : A) where
+  -- a refusal is the first case, whatever the value would have been, and leaves all as it was
+  pub refusal-tells :
+      (k : ℕ) → outcome cs a ≡ refused k →
+      (first cs ≡ k) × ((b : B) → outcome cs b ≡ refused k) × ((old new : B) → leaves cs old new ≡ old)
+  unfolding outcome leaves
+  refusal-tells k = go (first cs)
+    where
+      go :
+          (n : ℕ) → unless n a ≡ refused k →
+          (n ≡ k) × ((b : B) → unless n b ≡ refused k) × ((old new : B) → keepUnless n old new ≡ old)
+      go zero e = let z : _≡_ {A = ℕ} 0 1 = cc in absurd (omega arith)
+      go (suc n) e = let same : suc n ≡ k = cc in (same, λ b. ap refused same, λ old new. refl)
+
+  -- an accepted call has no first case, gives its value and leaves the new
+  pub acceptance-tells :
+      (x : A) → outcome cs a ≡ fine x →
+      (first cs ≡ 0) × (a ≡ x) × ((b : B) → outcome cs b ≡ fine b) × ((old new : B) → leaves cs old new ≡ new)
+  unfolding outcome leaves
+  acceptance-tells x = go (first cs)
+    where
+      go :
+          (n : ℕ) → unless n a ≡ fine x →
+          (n ≡ 0) × (a ≡ x) × ((b : B) → unless n b ≡ fine b) × ((old new : B) → keepUnless n old new ≡ new)
+      go zero e = (refl, cc, λ b. refl, λ old new. refl)
+      go (suc n) e = let z : _≡_ {A = ℕ} 0 1 = cc in absurd (omega arith)
 
 -- ---- In ascending cases the first is the lowest
 
@@ -140,3 +185,15 @@ clear k n (c ∷ cs) up e = go (c .applies) (eqb (c .number) n) e (clear (c .num
     go true b q ih = absurd (omega (arith, head-above k c cs up, q))
     go false true q ih = refl
     go false false q ih = ih q
+
+-- what a first part does not find is what the rest finds
+pub first-back : (k : ℕ) (cs ds : List Case) → ascends k cs ≡ true → first cs ≡ 0 → first (cs ++ ds) ≡ first ds
+unfolding first
+first-back k [] ds up e = refl
+first-back k (c ∷ cs) ds up e = go (c .applies) e (first-back (c .number) cs ds (rest-ascends k c cs up))
+  where
+    go :
+        (a : Bool) → cond a (c .number) (first cs) ≡ 0 → (first cs ≡ 0 → first (cs ++ ds) ≡ first ds) →
+        cond a (c .number) (first (cs ++ ds)) ≡ first ds
+    go true q ih = absurd (omega (arith, head-above k c cs up, q))
+    go false q ih = ih q

@@ -1,2 +1,0 @@
--- Laws that the proof of write rests on.
-pub mod Laid
