@@ -34,10 +34,10 @@ refusals : List Refusal
 refusals = BadStart ∷ ShortList ∷ UnsoundTable ∷ NoSuchJob ∷ ClockGoneBack ∷ TimeSpent ∷ AlreadyLive ∷ NotLive ∷ NoToken ∷ StillWaiting ∷ EmptySet ∷ NoSuchResource ∷ NotDeclared ∷ AlreadyHeld ∷ NotHeld ∷ TurnsSpent ∷ WrongLength ∷ UnknownKind ∷ BitSet ∷ StartOutOfPlace ∷ []
 
 -- the refusal so numbered
-refusalOf : ℕ → Refusal
+pub refusalOf : ℕ → Refusal
 refusalOf n = getD refusals (n - 1) BadStart
 
-refusalOf-numberOf : (r : Refusal) → refusalOf (numberOf r) ≡ r
+pub refusalOf-numberOf : (r : Refusal) → refusalOf (numberOf r) ≡ r
 unfolding refusals refusalOf
 refusalOf-numberOf BadStart = refl
 refusalOf-numberOf ShortList = refl

@@ -2,7 +2,7 @@
 use Prim.Native.Nat.{ℕ, zero, suc, _<_, _≤_}
 use mathlib.Core.Bool.{Bool, true, false, cond, _&&_, false≢true}
 use mathlib.Core.List.{List, [], _∷_, _++_}
-use mathlib.Core.Path.{_≡_, refl, ap}
+use mathlib.Core.Path.{_≡_, refl, ap, _∙_}
 use native.Mathlib.Nat.{lt-irrefl}
 use native.Mathlib.Omega.{arith}
 use borrow.Author.Tests.{ltb-true, eqb-true, eq-eqb, ne-eqb}
@@ -91,9 +91,23 @@ pub outcome-is : {A : Type 0} {cs : List Case} {n : ℕ} (a : A) → First cs n 
 unfolding outcome
 outcome-is a r = ap (λ (k : ℕ). unless k a) (first-is r)
 
+-- a case that does not apply is passed over
+pub outcome-past : {A : Type 0} (n : ℕ) (b : Bool) (cs : List Case) (a : A) → b ≡ false → outcome cs a ≡ outcome (when n b ∷ cs) a
+unfolding outcome first
+outcome-past n b cs a e = rw e
+
 pub leaves-is : {A : Type 0} {cs : List Case} {n : ℕ} (old new : A) → First cs n → keepUnless n old new ≡ leaves cs old new
 unfolding leaves
 leaves-is old new r = ap (λ (k : ℕ). keepUnless k old new) (first-is r)
+
+-- where old and new are the same, so is what is left
+pub leaves-same : {A : Type 0} (cs : List Case) (a : A) → leaves cs a a ≡ a
+unfolding leaves
+leaves-same {A} cs a = go (first cs)
+  where
+    go : (n : ℕ) → keepUnless n a a ≡ a
+    go zero = refl
+    go (suc n) = refl
 
 -- ---- What one answer tells of another under the same cases
 
@@ -197,3 +211,24 @@ first-back k (c ∷ cs) ds up e = go (c .applies) e (first-back (c .number) cs d
         cond a (c .number) (first (cs ++ ds)) ≡ first ds
     go true q ih = absurd (omega (arith, head-above k c cs up, q))
     go false q ih = ih q
+
+-- a refusal by a first part is the whole list's
+pub outcome-front :
+    {A : Type 0} (k : ℕ) (cs ds : List Case) (a : A) → refused k ≡ outcome cs a → refused k ≡ outcome (cs ++ ds) a
+unfolding outcome
+outcome-front {A} k cs ds a e = go (first cs) refl e
+  where
+    go : (n : ℕ) → first cs ≡ n → refused k ≡ unless n a → refused k ≡ unless (first (cs ++ ds)) a
+    go zero q e = let z : _≡_ {A = ℕ} 0 1 = cc in absurd (omega arith)
+    go (suc n) q e = rw (first-front cs ds (omega arith), q) e
+
+-- what a first part accepts is judged by the rest
+pub outcome-back :
+    {A : Type 0} (cs ds : List Case) (a x : A) (o : Outcome A) → ascending cs ≡ true → fine x ≡ outcome cs a →
+    o ≡ outcome ds x → o ≡ outcome (cs ++ ds) a
+unfolding outcome
+outcome-back {A} cs ds a x o up e r = go (first cs) refl e
+  where
+    go : (n : ℕ) → first cs ≡ n → fine x ≡ unless n a → o ≡ unless (first (cs ++ ds)) a
+    go zero q e = let same : x ≡ a = cc in r ∙ rw (first-back 0 cs ds up q, same)
+    go (suc n) q e = let z : _≡_ {A = ℕ} 0 1 = cc in absurd (omega arith)

@@ -1,14 +1,17 @@
 -- How many elements of a list pass a test, whether any does, whether all do; and how these change when one element does.
 use Prim.Native.Nat.{ℕ, zero, suc, _+_, _<_, _≤_}
 use mathlib.Core.Bool.{Bool, true, false, not, _&&_, _||_, or-comm, or-assoc, and-comm, and-assoc}
-use mathlib.Core.List.{List, [], _∷_, map}
-use mathlib.Core.Path.{_≡_, refl, sym, ap}
-use native.Mathlib.Nat.{not-suc-le-zero, le-of-suc-le-suc, add-assoc, add-comm, zero-add}
+use mathlib.Core.List.{List, [], _∷_, _++_, map}
+use mathlib.Core.Path.{_≡_, refl, sym, ap, _∙_}
+use native.Mathlib.Nat.{not-suc-le-zero, le-of-suc-le-suc, add-assoc, add-comm, add-zero, zero-add}
+use native.Mathlib.Numerals.{add-one}
 use native.Mathlib.Omega.{arith}
+use borrow.Author.Count.{below-more}
 use borrow.Author.Tests.{lt-ltb}
 use lib.Dec.{ltb}
 use Rattle.laws.specs.Bools.{bit, bit-le, and-left, and-right}
-use lib.ListN.{length, getD, set}
+use lib.ListN.{length, getD, set, drop, drop-of-length-le}
+use lib.Seq.{drop-cons, getD-set-other, getD-set-same}
 
 -- ---- Definitions
 
@@ -53,6 +56,14 @@ module _ {A : Type 0} (f : A → Bool) where
   pub all-set : (l : List A) (i : ℕ) (x d : A) → i < length l → (all f (set l i x) && f (getD l i d)) ≡ (all f l && f x)
   unfolding all
   all-set = joined-set _&&_ and-assoc and-comm f (all f) (λ x l. refl)
+
+-- ---- Of two lists
+
+module _ {A : Type 0} (f : A → Bool) where
+  pub all-append : (l m : List A) → all f (l ++ m) ≡ (all f l && all f m)
+  unfolding all
+  all-append [] m = refl
+  all-append (x ∷ l) m = rw (all-append l m) (sym (and-assoc (f x) (all f l) (all f m)))
 
 -- ---- Under map, and for tests that agree
 
@@ -105,3 +116,51 @@ module _ {A : Type 0} (f : A → Bool) where
   all-at [] i d e h = absurd (not-suc-le-zero h)
   all-at (x ∷ l) zero d e h = and-left (f x) (all f l) e
   all-at (x ∷ l) (suc i) d e h = all-at l i d (and-right (f x) (all f l) e) (le-of-suc-le-suc h)
+
+-- ---- From a place on: the element there, and the rest
+
+module _ {A : Type 0} (f : A → Bool) (l : List A) (i : ℕ) (d : A) (below : i < length l) where
+  pub count-drop : count f (drop i l) ≡ bit (f (getD l i d)) + count f (drop (i + 1) l)
+  unfolding count
+  count-drop = rw (add-one, drop-cons l i d below)
+
+  pub any-drop : any f (drop i l) ≡ (f (getD l i d) || any f (drop (i + 1) l))
+  unfolding any
+  any-drop = rw (add-one, drop-cons l i d below)
+
+  pub all-drop : all f (drop i l) ≡ (f (getD l i d) && all f (drop (i + 1) l))
+  unfolding all
+  all-drop = rw (add-one, drop-cons l i d below)
+
+-- ---- Counting element by element
+
+module _ {A : Type 0} (f : A → Bool) (l : List A) where
+  -- n elements before place i pass: with those from i on they are all that pass
+  abbrev pub Passed : ℕ → ℕ → Type 0
+  Passed i n = n + count f (drop i l) ≡ count f l
+
+  pub passed-none : Passed 0 0
+  passed-none = zero-add (count f l)
+
+  pub passed-more : (i n : ℕ) (d : A) → i < length l → Passed i n → Passed (i + 1) (n + bit (f (getD l i d)))
+  passed-more i n d below e = rw (add-assoc, ← count-drop f l i d below) e
+
+  pub passed-all : (i n : ℕ) → length l ≤ i → Passed i n → n ≡ count f l
+  unfolding count
+  passed-all i n end e = sym (add-zero n) ∙ rw (drop-of-length-le l end) at e
+
+  pub passed-le : (i n : ℕ) → Passed i n → n ≤ length l
+  passed-le i n e = omega (arith, count-le f l)
+
+-- ---- Filling element by element
+
+module _ {A : Type 0} (P : ℕ → A → Type 0) (d : A) where
+  -- each element before place i is as P says of its place
+  abbrev pub Filled : List A → ℕ → Type 0
+  Filled l i = (k : ℕ) → k < i → P k (getD l k d)
+
+  pub filled-more : (l : List A) (i : ℕ) (x : A) → i < length l → Filled l i → P i x → Filled (set l i x) (i + 1)
+  filled-more l i x below filled here =
+      below-more (λ k. P k (getD (set l i x) k d)) i
+      (λ k h. rw (getD-set-other l i k x d (λ e. omega (arith, e))) (filled k h))
+      (rw (getD-set-same l i x d below) here)

@@ -1,6 +1,6 @@
 -- Sets of resources as numbers: resource a is the bit of value 2 ^ a. Every law holds for numbers of any size, so for every width at once.
 use Prim.Native.Nat.{ℕ, zero, suc, _+_, _-_, _/_, _%_, _^_, _≤_, _<_}
-use mathlib.Core.Bool.{Bool, true, false, not, xor, _&&_, _||_, true≢false, and-eq-true-iff, and-true, and-false, and-self, or-self, and-assoc, or-assoc, and-comm, or-comm, not-and-self, not-or-self, and-or-distrib-left, and-self-left}
+use mathlib.Core.Bool.{Bool, true, false, not, xor, _&&_, _||_, true≢false, and-eq-true-iff, and-true, and-false, or-false, and-self, or-self, and-assoc, or-assoc, and-comm, or-comm, not-and-self, not-or-self, and-or-distrib-left, and-self-left}
 use mathlib.Core.Logic.{_↔_}
 use mathlib.Core.Path.{_≡_, refl, sym, ap, _∙_}
 use native.Mathlib.Nat.{mod-lt, zero-div, div-eq-of-lt, le-div-iff-mul-le, le-add-right, add-sub-of-le, lt-of-lt-of-le}
@@ -220,6 +220,9 @@ union-assoc s t u = ext (λ a. simp members (or-assoc (member s a) (member t a) 
 pub union-self : (s : ℕ) → union s s ≡ s
 union-self s = ext (λ a. simp members (or-self (member s a)))
 
+pub union-empty : (s : ℕ) → union s 0 ≡ s
+union-empty s = ext (λ a. simp (members, or-false))
+
 pub meet-comm : (s t : ℕ) → meet s t ≡ meet t s
 meet-comm s t = ext (λ a. simp members (and-comm (member s a) (member t a)))
 
@@ -286,6 +289,17 @@ pub meets-mono : (s t u : ℕ) → inside s t ≡ true → meets s u ≡ true �
 meets-mono s t u p q =
     let r = meets-reads s u .holds .0 q in
     meets-reads t u .holds .1 (r .0, inside-reads s t .holds .0 p (r .0) (r .1), r .2)
+
+-- the set without members lies inside any, and meets none
+pub inside-empty : (s : ℕ) → inside 0 s ≡ true
+inside-empty s = inside-reads 0 s .holds .1 (λ a m. absurd (true≢false (sym m ∙ member-empty a)))
+
+pub meets-empty : (s : ℕ) → meets s 0 ≡ false
+meets-empty s = meets-reads s 0 .fails .1 (λ a m. member-empty a)
+
+-- a part of what does not meet a set does not meet it
+pub meets-inside : (s t u : ℕ) → inside s t ≡ true → meets t u ≡ false → meets s u ≡ false
+meets-inside s t u p q = meets-reads s u .fails .1 (λ a m. meets-reads t u .fails .0 q a (inside-reads s t .holds .0 p a m))
 
 pub below-mono : (s t r : ℕ) → inside s t ≡ true → below t r ≡ true → below s r ≡ true
 below-mono s t r p q = below-reads s r .holds .1 (λ a m. below-reads t r .holds .0 q a (inside-reads s t .holds .0 p a m))

@@ -1,0 +1,61 @@
+-- From a verdict to the promise of an event: a refusal leaves all as it was, an acceptance does what the event means.
+use Prim.Native.Nat.{ℕ}
+use mathlib.Core.List.{List}
+use mathlib.Core.Path.{_≡_, sym, ap, _∙_}
+use Rattle.event.specs.Refusals.{numberOf}
+use Rattle.event.specs.declared.refusal.Refusal.{Refusal}
+use Rattle.event.specs.declared.said.Event.{Event}
+use Rattle.laws.specs.Cases.{acceptance-tells, fine, outcome, refusal-tells, refused}
+use Rattle.laws.specs.Front.{over}
+use lib.ListN.{length}
+use Rattle.arbiter.specs.Meaning.{accepted, answer, listed, next, told, wakes}
+use Rattle.arbiter.specs.Promises.{Answered, AnsweredInto, Does, Refuses}
+use Rattle.arbiter.specs.Refusals.{cases}
+use Rattle.arbiter.specs.declared.table.Next.{Next}
+use Rattle.arbiter.specs.declared.table.Table.{Table}
+
+module _ (n : ℕ) (t : Table) (e : Event) (time : ℕ) (r : Next) where
+  pub refused-answers :
+      (refusal : Refusal) → refused (numberOf refusal) ≡ outcome (cases n t e) time → Refuses t refusal r → Answered n t e r
+  unfolding answer next
+  refused-answers refusal v p =
+      record {
+        says = p .says ∙ sym (refusal-tells (cases n t e) time (numberOf refusal) (sym v) .1 (told t e));
+        hands = p .hands ∙ sym (refusal-tells (cases n t e) time (numberOf refusal) (sym v) .2 t (accepted t e));
+      }
+
+  -- the table is made with the time that the verdict gave
+  pub accepted-answers :
+      (x : ℕ) (table : ℕ → Table) → fine x ≡ outcome (cases n t e) time → table time ≡ accepted t e → Does (told t e) (table x) r →
+      Answered n t e r
+  unfolding answer next
+  accepted-answers x table v made p =
+      record {
+        says = p .says ∙ sym (acceptance-tells (cases n t e) time x (sym v) .2 (told t e));
+        hands =
+            p .hands ∙ ap table (sym (acceptance-tells {B = ℕ} (cases n t e) time x (sym v) .1)) ∙ made
+            ∙ sym (acceptance-tells (cases n t e) time x (sym v) .3 t (accepted t e));
+      }
+
+-- the same with a lent list, which a refusal leaves as it was
+module _ (t : Table) (e : Event) (time : ℕ) (before : List ℕ) (r : Next) where
+  pub refused-answers-into :
+      (refusal : Refusal) → refused (numberOf refusal) ≡ outcome (cases (length before) t e) time → Refuses t refusal r →
+      AnsweredInto t e before r before
+  unfolding listed
+  refused-answers-into refusal v p =
+      record {
+        answered = refused-answers (length before) t e time r refusal v p;
+        lists =
+            sym (refusal-tells (cases (length before) t e) time (numberOf refusal) (sym v) .2 before (over (wakes t e) before));
+      }
+
+  pub accepted-answers-into :
+      (after : List ℕ) (x : ℕ) (table : ℕ → Table) → fine x ≡ outcome (cases (length before) t e) time →
+      table time ≡ accepted t e → Does (told t e) (table x) r → after ≡ over (wakes t e) before → AnsweredInto t e before r after
+  unfolding listed
+  accepted-answers-into after x table v made p l =
+      record {
+        answered = accepted-answers (length before) t e time r x table v made p;
+        lists = l ∙ sym (acceptance-tells (cases (length before) t e) time x (sym v) .3 before (over (wakes t e) before));
+      }

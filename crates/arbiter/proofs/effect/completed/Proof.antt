@@ -1,0 +1,93 @@
+-- `arbiter::effect::completed` meets its contract: what is known of the changed rows is known of the settled ones, and the marked
+-- jobs of their line are those woken.
+use Prim.Native.Nat.{ℕ}
+use mathlib.Core.Path.{_≡_, ap, _∙_}
+use native.Mathlib.Omega.{arith}
+use borrow.Author.Needs.{needs}
+use lib.ListN.{length, set}
+use Rattle.laws.specs.Cases.{fine}
+use Rattle.rows.specs.InLine.{lines-valid, listed-line}
+use Rattle.rows.specs.Known.{surveyed-settled}
+use Rattle.rows.specs.Order.{jobs}
+use Rattle.rows.specs.Sweep.{settled, woke, woken}
+use Rattle.rows.specs.declared.row.Row.{Row}
+use Rattle.arbiter.specs.Answers as Answers
+use Rattle.arbiter.specs.Meaning.{completedRows}
+use Rattle.arbiter.proofs.effect.completed.Statement.{statement}
+use Rattle.arbiter.proofs.effect.completed.Tie as tie
+
+idle-requires : tie.Need-idle-requires
+idle-requires c κs = search needs
+
+mul-changed : tie.Need-mul-changed
+mul-changed c = search needs
+
+array-set-from-changed : tie.Need-array-set-from-changed
+array-set-from-changed c = search needs
+
+survey-requires : tie.Need-survey-requires
+survey-requires c κs = search needs
+
+settled-requires : tie.Need-settled-requires
+settled-requires c κs = search needs
+
+wake-marks-requires : tie.Need-wake-marks-requires
+wake-marks-requires c κs =
+    let start = c .before .before .before .before .before .before in
+    let t = start .args .t in
+    let changed = set (t .rows) (start .args .k) (c .before .before .idle .result) in
+    let knows = c .before .survey in (
+      start .pre .0,
+      rw (c .settled .ensures) (surveyed-settled (t .tokens) changed (knows .result) (knows .ensures)),
+    )
+
+line-up-requires : tie.Need-line-up-requires
+line-up-requires c κs = search needs
+
+write-marked-requires : tie.Need-write-marked-requires
+write-marked-requires c κs =
+    let lines = c .before .line-up in
+    (lines-valid (c .before .before .before .settled .result) (lines .result) (search needs) (lines .ensures), search needs)
+
+moved-requires : tie.Need-moved-requires
+moved-requires c κs = search needs
+
+same-length : tie.Need-same-length
+same-length c = search needs
+
+returns : tie.Need-returns
+unfolding woken
+returns c =
+    let start = c .before .before .before .before .before .before .before .before .before .before .before .before .before in
+    let t = start .args .t in
+    let settles = c .before .before .before .before .before .before .before .settled in
+    let marks = c .before .before .before .before .before .before .wake-marks in
+    let lines = c .before .before .before .before .before .line-up in
+    let after = settles .result in
+    let idles = c .before .before .before .before .before .before .before .before .before .idle .ensures in
+    let same : after ≡ completedRows t (start .args .k) =
+    settles .ensures ∙ ap (λ (r : Row). settled (t .tokens) (set (t .rows) (start .args .k) r)) idles in
+    let all : length after ≡ jobs = search needs in
+    let lists =
+    rw same at (listed-line (woke (t .tokens) (t .rows) after) after (marks .result) (lines .result) (lines .ensures)
+    (λ j h. marks .ensures j (omega arith)) (c .before .before .before .write-marked .ensures)) in
+    record {
+      does = record { says = ap (λ (n : ℕ). fine (Answers.woke n)) (lists .told); hands = rw same at (c .moved .ensures) };
+      lists = lists .left;
+    }
+
+pub completed-spec : {M : Type 1} → statement M
+completed-spec =
+    tie.close
+    (tie.spec
+    idle-requires
+    mul-changed
+    array-set-from-changed
+    survey-requires
+    settled-requires
+    wake-marks-requires
+    line-up-requires
+    write-marked-requires
+    moved-requires
+    same-length
+    returns)

@@ -1,0 +1,55 @@
+-- `arbiter::effect::opened` meets its contract: what is known of the next turn says whether it has a token.
+use Prim.Native.Nat.{_+_}
+use mathlib.Core.Path.{_≡_, sym, _∙_}
+use borrow.Author.Needs.{needs}
+use Rattle.rows.specs.Known.{token-by}
+use Rattle.rows.specs.Order.{token}
+use Rattle.arbiter.proofs.effect.opened.Statement.{statement}
+use Rattle.arbiter.proofs.effect.opened.Tie as tie
+
+token-is :
+    (c : tie.After-token) →
+    let t = c .before .before .before .before .before .args .t in
+    token (t .tokens) (t .rows) (t .last .0 + 1) ≡ c .token .result
+token-is c =
+    let t = c .before .before .before .before .before .args .t in
+    let turn = c .before .before .next-turn in
+    let stands = c .before .standing in
+    sym (c .token .ensures ∙ token-by (t .tokens) (t .rows) (stands .result) (t .last .0 + 1) (rw (turn .ensures) at (stands .ensures)))
+
+next-turn-requires : tie.Need-next-turn-requires
+next-turn-requires c κs = search needs
+
+standing-requires : tie.Need-standing-requires
+standing-requires c κs = search needs
+
+token-requires : tie.Need-token-requires
+token-requires c κs = search needs
+
+with-row-requires : tie.Need-with-row-requires
+with-row-requires c κs = search needs
+
+returns : tie.Need-returns
+returns c =
+    let has = token-is (c .before .before) ∙ c .before .if1 .taken in
+    record { says = rw has; hands = c .with-row .ensures ∙ rw (has, c .before .before .before .before .next-turn .ensures) }
+
+with-row-requires-2 : tie.Need-with-row-requires-2
+with-row-requires-2 c κs = search needs
+
+returns-2 : tie.Need-returns-2
+returns-2 c =
+    let has = token-is (c .before .before) ∙ c .before .if1 .left in
+    record { says = rw has; hands = c .with-row2 .ensures ∙ rw (has, c .before .before .before .before .next-turn .ensures) }
+
+pub opened-spec : {M : Type 1} → statement M
+opened-spec =
+    tie.close
+    (tie.spec
+    next-turn-requires
+    standing-requires
+    token-requires
+    with-row-requires
+    returns
+    with-row-requires-2
+    returns-2)

@@ -1,0 +1,55 @@
+-- `arbiter::effect::reported` meets its contract: what is known of the row's turn is what the rows say.
+use mathlib.Core.Path.{_∙_}
+use borrow.Author.Needs.{needs}
+use lib.ListN.{getD}
+use Rattle.rows.specs.Known.{token-by, waiting-by}
+use Rattle.rows.specs.Line.{rowOf}
+use Rattle.rows.specs.Stand.{unknown}
+use Rattle.arbiter.proofs.effect.reported.Statement.{statement}
+use Rattle.arbiter.proofs.effect.reported.Tie as tie
+
+mul-row : tie.Need-mul-row
+mul-row c = search needs
+
+array-copy-out-row : tie.Need-array-copy-out-row
+array-copy-out-row c = search needs
+
+mul-standing : tie.Need-mul-standing
+mul-standing c = search needs
+
+array-copy-out-standing : tie.Need-array-copy-out-standing
+array-copy-out-standing c = search needs
+
+token-requires : tie.Need-token-requires
+token-requires c κs = search needs
+
+waiting-requires : tie.Need-waiting-requires
+waiting-requires c κs = search needs
+
+in-way-requires : tie.Need-in-way-requires
+in-way-requires c κs = search needs
+
+returns : tie.Need-returns
+returns c =
+    let start = c .before .before .before .before .before .before .before .before in
+    let t = start .args .t in
+    let k = start .args .k in
+    let r = rowOf (t .rows) k in
+    let s = getD (start .args .known .standings) k unknown in
+    let stands = start .pre .0 .each k (start .pre .1) in
+    let has = c .before .before .token .ensures ∙ token-by (t .tokens) (t .rows) s (r .turn .0) stands in
+    let waits = c .before .waiting .ensures ∙ waiting-by (t .tokens) (t .rows) s r stands in
+    λ i. record { turn = r .turn; token = has i; waiting = waits i; ahead = stands .before i; «in_way» = c .in-way .ensures i }
+
+pub reported-spec : {M : Type 1} → statement M
+reported-spec =
+    tie.close
+    (tie.spec
+    mul-row
+    array-copy-out-row
+    mul-standing
+    array-copy-out-standing
+    token-requires
+    waiting-requires
+    in-way-requires
+    returns)

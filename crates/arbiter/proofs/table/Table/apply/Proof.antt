@@ -1,0 +1,109 @@
+-- Each arm is the method of that event; all but complete leave the lent list as it was.
+use mathlib.Core.List.{List, []}
+use mathlib.Core.Path.{_≡_, refl, sym, _∙_}
+use Prim.Native.Nat.{ℕ}
+use lib.ListN.{length}
+use Rattle.event.specs.declared.said.Event.{Event}
+use Rattle.laws.specs.Cases.{leaves-same}
+use Rattle.laws.specs.Front.{over}
+use Rattle.rows.specs.Order.{jobs}
+use Rattle.arbiter.specs.Meaning.{answer, listed, next, wakes}
+use Rattle.arbiter.specs.Promises.{Answered, AnsweredInto}
+use Rattle.arbiter.specs.Refusals.{cases}
+use Rattle.arbiter.specs.declared.table.Next.{Next}
+use Rattle.arbiter.specs.declared.table.Table.{Table}
+use borrow.Author.Needs.{needs}
+use Rattle.arbiter.proofs.table.Table.apply.Statement.{statement}
+use Rattle.arbiter.proofs.table.Table.apply.Tie as tie
+
+-- an event that wakes nobody leaves the lent list as it was
+module _ (t : Table) (e : Event) (out : List ℕ) (r : Next) where
+  unlisted : wakes t e ≡ [] → Answered (length out) t e r → AnsweredInto t e out r out
+  unfolding listed over
+  unlisted quiet p = record { answered = p; lists = sym (rw quiet (leaves-same (cases (length out) t e) out)) }
+
+
+enum-known-event : tie.Need-enum-known-event
+enum-known-event c = search needs
+
+beat-requires : tie.Need-beat-requires
+beat-requires c κs = search needs
+
+enum-known-event-2 : tie.Need-enum-known-event-2
+enum-known-event-2 c = search needs
+
+open-requires : tie.Need-open-requires
+open-requires c κs = search needs
+
+enum-known-event-3 : tie.Need-enum-known-event-3
+enum-known-event-3 c = search needs
+
+ask-requires : tie.Need-ask-requires
+ask-requires c κs = search needs
+
+enum-known-event-4 : tie.Need-enum-known-event-4
+enum-known-event-4 c = search needs
+
+release-requires : tie.Need-release-requires
+release-requires c κs = search needs
+
+enum-known-event-5 : tie.Need-enum-known-event-5
+enum-known-event-5 c = search needs
+
+complete-requires : tie.Need-complete-requires
+complete-requires c κs = search needs
+
+returns : tie.Need-returns
+unfolding answer next
+returns c = 
+    let a = c .before .before .before .before .before .args in
+    rw (c .before .before .event .given .1) (unlisted (a .self) _ (a .woken .now) _ refl
+    (record { says = c .beat .ensures .says; hands = c .beat .ensures .hands }))
+
+returns-2 : tie.Need-returns-2
+unfolding answer next
+returns-2 c = 
+    let a = c .before .before .before .before .before .args in
+    rw (c .before .before .event2 .given .1) (unlisted (a .self) _ (a .woken .now) _ refl
+    (record { says = c .«open» .ensures .says; hands = c .«open» .ensures .hands }))
+
+returns-3 : tie.Need-returns-3
+unfolding answer next
+returns-3 c = 
+    let a = c .before .before .before .before .before .args in
+    rw (c .before .before .event3 .given .1) (unlisted (a .self) _ (a .woken .now) _ refl
+    (record { says = c .ask .ensures .says; hands = c .ask .ensures .hands }))
+
+returns-4 : tie.Need-returns-4
+unfolding answer next
+returns-4 c = 
+    let a = c .before .before .before .before .before .args in
+    rw (c .before .before .event4 .given .1) (unlisted (a .self) _ (a .woken .now) _ refl
+    (record { says = c .release .ensures .says; hands = c .release .ensures .hands }))
+
+same-length : tie.Need-same-length
+same-length c = search needs
+
+returns-5 : tie.Need-returns-5
+returns-5 c = rw (c .before .before .before .before .before .event5 .given .1) (c .before .before .complete .ensures)
+
+pub apply-spec : {M : Type 1} → statement M
+apply-spec =
+    tie.close
+    (tie.spec
+    enum-known-event
+    beat-requires
+    enum-known-event-2
+    open-requires
+    enum-known-event-3
+    ask-requires
+    enum-known-event-4
+    release-requires
+    enum-known-event-5
+    complete-requires
+    returns
+    returns-2
+    returns-3
+    returns-4
+    same-length
+    returns-5)

@@ -1,0 +1,69 @@
+-- The three tests are the three cases, in their order.
+use mathlib.Core.Bool.{not}
+use mathlib.Core.Path.{sym, ap, _∙_}
+use borrow.Author.Tests.{le-leb, lt-leb}
+use Rattle.laws.specs.Cases.{fine, none, outcome-is, past, this}
+use Rattle.arbiter.specs.Meaning.{report}
+use borrow.Author.Needs.{needs}
+use Rattle.arbiter.proofs.table.Table.report.Statement.{statement}
+use Rattle.arbiter.proofs.table.Table.report.Tie as tie
+
+survey-requires : tie.Need-survey-requires
+survey-requires c κs = search needs
+
+is-sound-requires : tie.Need-is-sound-requires
+is-sound-requires c κs = search needs
+
+returns : tie.Need-returns
+unfolding report
+returns c = outcome-is _ (this (ap not (sym (c .before .is-sound .ensures)) ∙ c .if1 .taken))
+
+cast-if2 : tie.Need-cast-if2
+cast-if2 c = search needs
+
+returns-2 : tie.Need-returns-2
+unfolding report
+returns-2 c = outcome-is _ (past (ap not (sym (c .before .before .is-sound .ensures)) ∙ c .before .if1 .left) (this (le-leb _ _ (c .if2 .taken))))
+
+mul-row : tie.Need-mul-row
+mul-row c = search needs
+
+array-copy-out-row : tie.Need-array-copy-out-row
+array-copy-out-row c = search needs
+
+live-requires : tie.Need-live-requires
+live-requires c κs = search needs
+
+returns-3 : tie.Need-returns-3
+unfolding report
+returns-3 c = 
+    outcome-is _
+    (past (ap not (sym (c .before .before .before .before .before .is-sound .ensures)) ∙ c .before .before .before .before .if1 .left)
+    (past (lt-leb _ _ (c .before .before .before .if2 .left)) (this (ap not (sym (c .before .live .ensures)) ∙ c .if3 .taken))))
+
+reported-requires : tie.Need-reported-requires
+reported-requires c κs = (c .before .before .before .before .before .before .survey .ensures, c .before .before .before .if2 .left)
+
+returns-4 : tie.Need-returns-4
+unfolding report
+returns-4 c = 
+    ap fine (c .reported .ensures)
+    ∙ outcome-is _
+    (past (ap not (sym (c .before .before .before .before .before .before .is-sound .ensures)) ∙ c .before .before .before .before .before .if1 .left)
+    (past (lt-leb _ _ (c .before .before .before .before .if2 .left)) (past (ap not (sym (c .before .before .live .ensures)) ∙ c .before .if3 .left) none)))
+
+pub report-spec : {M : Type 1} → statement M
+report-spec =
+    tie.close
+    (tie.spec
+    survey-requires
+    is-sound-requires
+    returns
+    cast-if2
+    returns-2
+    mul-row
+    array-copy-out-row
+    live-requires
+    returns-3
+    reported-requires
+    returns-4)

@@ -1,0 +1,64 @@
+-- The one test is the one case; all rows are the idle row.
+use mathlib.Core.Bool.{not}
+use mathlib.Core.Path.{sym, ap, _∙_}
+use lib.ListN.{replicate}
+use Rattle.laws.specs.Cases.{leaves-is, none, outcome-is, past, this}
+use Rattle.rows.specs.Order.{jobs}
+use Rattle.rows.specs.declared.row.Row.{Row}
+use Rattle.arbiter.specs.Meaning.{freshTable, startAnswer, startTable}
+use Rattle.arbiter.specs.declared.table.Table.{Table}
+use borrow.Author.Needs.{needs}
+use Rattle.arbiter.proofs.table.Table.start.Statement.{statement}
+use Rattle.arbiter.proofs.table.Table.start.Tie as tie
+
+idle-requires : tie.Need-idle-requires
+idle-requires c κs = search needs
+
+in-range-requires : tie.Need-in-range-requires
+in-range-requires c κs = search needs
+
+refused-requires : tie.Need-refused-requires
+refused-requires c κs = search needs
+
+returns : tie.Need-returns
+unfolding startAnswer startTable
+returns c = 
+    let out = this (ap not (sym (c .before .before .in-range .ensures)) ∙ c .before .if1 .taken) in
+    record {
+      says = c .refused .ensures .says ∙ outcome-is _ out;
+      hands =
+          c .refused .ensures .hands
+          ∙ ap (λ (r : Row). record { tokens = 0; resources = 0; limit = 0; time = 0; last = record { 0 = 0 }; rows = replicate jobs r })
+          (c .before .before .before .idle .ensures)
+          ∙ leaves-is _ _ out;
+    }
+
+cast-t13 : tie.Need-cast-t13
+cast-t13 c = search needs
+
+returns-2 : tie.Need-returns-2
+unfolding startAnswer startTable
+returns-2 c = 
+    let a = c .before .before .before .before .args in
+    let ok = past (ap not (sym (c .before .before .in-range .ensures)) ∙ c .before .if1 .left) none in
+    record {
+      says = outcome-is _ ok;
+      hands =
+          ap
+          (λ (r : Row).
+              record {
+                tokens = a .tokens;
+                resources = a .resources;
+                limit = a .limit;
+                time = a .tick .0;
+                last = record { 0 = 0 };
+                rows = replicate jobs r;
+              })
+          (c .before .before .before .idle .ensures)
+          ∙ leaves-is _ _ ok;
+    }
+
+pub start-spec : {M : Type 1} → statement M
+start-spec =
+    tie.close
+    (tie.spec idle-requires in-range-requires refused-requires returns cast-t13 returns-2)

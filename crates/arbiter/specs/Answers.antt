@@ -1,0 +1,32 @@
+-- What each case of an answer says: the number of a refusal, or its values.
+use Prim.Native.Nat.{ℕ}
+use Rattle.event.specs.Refusals.{numberOf}
+use Rattle.laws.specs.Cases.{Outcome, refused, fine}
+use Rattle.arbiter.specs.declared.table.Answer.{Answer}
+use Rattle.arbiter.specs.declared.table.Answer.the-variants as Answers
+use Rattle.arbiter.specs.declared.table.Late.{Late}
+use Rattle.arbiter.specs.declared.table.Late.the-variants as Lates
+use Rattle.arbiter.specs.declared.table.Report.{Report}
+use Rattle.arbiter.specs.declared.table.Reported.{Reported}
+use Rattle.arbiter.specs.declared.table.Reported.the-variants as Reports
+
+-- what an accepted event is told: "token", "granted", "wait", simply done, or how many jobs it woke
+pub data Said : Type 0 where
+  token granted wait done : Said
+  woke : ℕ → Said
+
+abbrev pub saidOf : Answer → Outcome Said
+saidOf (Answers.No r) = refused (numberOf r)
+saidOf Answers.Token = fine token
+saidOf Answers.Granted = fine granted
+saidOf Answers.Wait = fine wait
+saidOf Answers.Done = fine done
+saidOf (Answers.Woke n) = fine (woke n)
+
+abbrev pub reportOf : Reported → Outcome Report
+reportOf (Reports.No r) = refused (numberOf r)
+reportOf (Reports.Is x) = fine x
+
+abbrev pub lateOf : Late → Outcome ℕ
+lateOf (Lates.No r) = refused (numberOf r)
+lateOf (Lates.Count n) = fine n

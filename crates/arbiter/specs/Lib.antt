@@ -1,0 +1,7 @@
+-- What the calls mean: document 01, from "What a table holds" to "Refusal numbers".
+pub mod Answers
+pub mod Meaning
+pub mod Promises
+pub mod Readings
+pub mod Refusals
+pub mod Sound

@@ -1,0 +1,187 @@
+-- What an accepted call does, as document 01 words it under "The events"; a refused one changes nothing.
+use Prim.Native.Nat.{ℕ, _+_, _-_}
+use mathlib.Core.Bool.{Bool, cond, _&&_}
+use mathlib.Core.List.{List, [], _∷_}
+use lib.Dec.{leb}
+use lib.ListN.{length, replicate, set}
+use Rattle.event.specs.Clock.{difference}
+use Rattle.event.specs.declared.said.Event.{Event}
+use Rattle.event.specs.declared.said.Event.the-variants.{Beat, Open, Ask, Release, Complete}
+use Rattle.laws.specs.Cases.{Outcome, leaves, outcome}
+use Rattle.laws.specs.Front.{over}
+use Rattle.laws.specs.Sets.{union, without}
+use Rattle.rows.specs.Known.{waitingBy}
+use Rattle.rows.specs.Line.{keep, line, rowOf}
+use Rattle.rows.specs.Order.{ahead, blocked, idle, inWay, jobs, token, waiting}
+use Rattle.rows.specs.Sweep.{settled, woken}
+use Rattle.rows.specs.declared.row.Row.{Row}
+use Rattle.rows.specs.declared.stand.Standing.{Standing}
+use Rattle.arbiter.specs.Answers.{Said}
+use Rattle.arbiter.specs.Answers as Answers
+use Rattle.arbiter.specs.Refusals.{cases, overdueCases, reportCases, startCases}
+use Rattle.arbiter.specs.declared.table.Report.{Report}
+use Rattle.arbiter.specs.declared.table.Table.{Table}
+
+-- ---- The rows that events write
+
+-- the true time that an accepted tick gives
+abbrev pub timeAt : Table → ℕ → ℕ
+timeAt t tick = t .time + difference (t .time) tick
+
+-- a request opened at a time: the next turn, and a wait from then on if it has no token
+abbrev pub openedRow : Table → ℕ → ℕ → Row
+openedRow t time s =
+    record {
+      turn = record { 0 = t .last .0 + 1 };
+      declared = s;
+      held = 0;
+      asked = 0;
+      since = cond (token (t .tokens) (t .rows) (t .last .0 + 1)) 0 time;
+    }
+
+-- Q3: the whole set is held if no live row of lower turn declares any member, else all of it is asked, from this time on
+abbrev pub askedRow : Table → Row → ℕ → ℕ → Row
+askedRow t r time s =
+    cond (blocked (t .rows) (r .turn .0) s)
+    (record { turn = r .turn; declared = r .declared; held = r .held; asked = s; since = time })
+    (record { turn = r .turn; declared = r .declared; held = union (r .held) s; asked = r .asked; since = r .since })
+
+-- the members are no longer held; the declared set stays whole
+abbrev pub releasedRow : Row → ℕ → Row
+releasedRow r s =
+    record { turn = r .turn; declared = r .declared; held = without (r .held) s; asked = r .asked; since = r .since }
+
+-- the rows after a completion: the row is idle, and what the others wait for is settled anew
+abbrev pub completedRows : Table → ℕ → List Row
+completedRows t j = settled (t .tokens) (set (t .rows) j idle)
+
+-- ---- Accepted events
+
+-- the table at this time, with this last turn and these rows
+abbrev pub moved : Table → ℕ → ℕ → List Row → Table
+moved t time last rows =
+    record {
+      tokens = t .tokens;
+      resources = t .resources;
+      limit = t .limit;
+      time = time;
+      last = record { 0 = last };
+      rows = rows;
+    }
+
+-- the next table of an accepted event
+abbrev pub accepted : Table → Event → Table
+accepted t (Beat tick) = moved t (timeAt t (tick .0)) (t .last .0) (t .rows)
+accepted t (Open j tick s) =
+    moved t (timeAt t (tick .0)) (t .last .0 + 1) (set (t .rows) j (openedRow t (timeAt t (tick .0)) s))
+accepted t (Ask j tick s) =
+    moved t (timeAt t (tick .0)) (t .last .0) (set (t .rows) j (askedRow t (rowOf (t .rows) j) (timeAt t (tick .0)) s))
+accepted t (Release j tick s) =
+    moved t (timeAt t (tick .0)) (t .last .0) (set (t .rows) j (releasedRow (rowOf (t .rows) j) s))
+accepted t (Complete j tick) = moved t (timeAt t (tick .0)) (t .last .0) (completedRows t j)
+
+-- the jobs that an accepted event wakes, in order of turn
+abbrev pub wakes : Table → Event → List ℕ
+wakes t (Beat tick) = []
+wakes t (Open j tick s) = []
+wakes t (Ask j tick s) = []
+wakes t (Release j tick s) = []
+wakes t (Complete j tick) = woken (t .tokens) (t .rows) (completedRows t j)
+
+-- an opening says "token" if it has one, else "wait"
+abbrev pub toldOpen : Table → Said
+toldOpen t = cond (token (t .tokens) (t .rows) (t .last .0 + 1)) Answers.token Answers.wait
+
+-- an ask says "wait" where Q3 forbids the set, else "granted"
+abbrev pub toldAsk : Table → Row → ℕ → Said
+toldAsk t r s = cond (blocked (t .rows) (r .turn .0) s) Answers.wait Answers.granted
+
+-- what an accepted event is told
+abbrev pub told : Table → Event → Said
+told t (Beat tick) = Answers.done
+told t (Open j tick s) = toldOpen t
+told t (Ask j tick s) = toldAsk t (rowOf (t .rows) j) s
+told t (Release j tick s) = Answers.done
+told t (Complete j tick) = Answers.woke (length (wakes t (Complete j tick)))
+
+-- ---- Any event, refused or not
+
+-- the answer to an event, with a lent list of n entries
+unfoldable pub answer : ℕ → Table → Event → Outcome Said
+answer n t e = outcome (cases n t e) (told t e)
+
+-- the table after an event
+unfoldable pub next : ℕ → Table → Event → Table
+next n t e = leaves (cases n t e) t (accepted t e)
+
+-- the lent list after an event
+unfoldable pub listed : Table → Event → List ℕ → List ℕ
+listed t e out = leaves (cases (length out) t e) out (over (wakes t e) out)
+
+-- ---- The start
+
+-- the all-zero table, which is unsound
+abbrev pub noTable : Table
+noTable =
+    record { tokens = 0; resources = 0; limit = 0; time = 0; last = record { 0 = 0 }; rows = replicate jobs idle }
+
+-- a table at its start: true time is the start tick, no turn given, all rows idle
+abbrev pub freshTable : ℕ → ℕ → ℕ → ℕ → Table
+freshTable T R tick limit =
+    record { tokens = T; resources = R; limit = limit; time = tick; last = record { 0 = 0 }; rows = replicate jobs idle }
+
+unfoldable pub startAnswer : ℕ → ℕ → ℕ → Outcome Said
+startAnswer T R limit = outcome (startCases T R limit) Answers.done
+
+-- a refused start hands back the all-zero table
+unfoldable pub startTable : ℕ → ℕ → ℕ → ℕ → Table
+startTable T R tick limit = leaves (startCases T R limit) noTable (freshTable T R tick limit)
+
+-- ---- The questions
+
+-- what is told of a job's request
+abbrev pub reported : Table → Row → Report
+reported t r =
+    record {
+      turn = r .turn;
+      token = token (t .tokens) (t .rows) (r .turn .0);
+      waiting = waiting (t .tokens) (t .rows) r;
+      ahead = ahead (t .rows) (r .turn .0);
+      «in_way» = inWay (t .rows) (r .turn .0) (r .declared);
+    }
+
+unfoldable pub report : Table → ℕ → Outcome Report
+report t j = outcome (reportCases t j) (reported t (rowOf (t .rows) j))
+
+-- the waiting jobs whose wait up to this time is the limit or more, in order of turn
+unfoldable pub lateAt : Table → ℕ → List ℕ
+lateAt t time =
+    keep (λ j. waiting (t .tokens) (t .rows) (rowOf (t .rows) j) && leb (t .limit) (time - rowOf (t .rows) j .since))
+    (line (t .rows))
+
+-- the same up to this tick; no clock moves
+abbrev pub late : Table → ℕ → List ℕ
+late t tick = lateAt t (timeAt t tick)
+
+unfoldable pub overdue : ℕ → Table → ℕ → Outcome ℕ
+overdue n t tick = outcome (overdueCases n t tick) (length (late t tick))
+
+unfoldable pub overdueList : Table → ℕ → List ℕ → List ℕ
+overdueList t tick out = leaves (overdueCases (length out) t tick) out (over (late t tick) out)
+
+-- ---- Sequences of events
+
+-- one event after another, each with a lent list that is long enough
+unfoldable pub run : Table → List Event → Table
+run t [] = t
+run t (e ∷ es) = run (next jobs t e) es
+
+-- ---- Of one job in the overdue ones
+
+-- the job waits, and its wait up to this time is the limit or more
+abbrev pub lateJob : ℕ → ℕ → ℕ → List Row → ℕ → Bool
+lateJob T limit time rows j = waiting T rows (rowOf rows j) && leb limit (time - rowOf rows j .since)
+
+-- the same of its row r, s being what is known of the row's turn
+abbrev pub lateBy : ℕ → ℕ → ℕ → Standing → Row → Bool
+lateBy T limit time s r = waitingBy T s r && leb limit (time - r .since)

@@ -1,0 +1,13 @@
+// The arbiter: a table of locking requests, the events that change it and the questions about it.
+mod calls;
+mod effect;
+mod sound;
+mod table;
+mod verdict;
+
+pub use table::Answer;
+pub use table::Late;
+pub use table::Next;
+pub use table::Report;
+pub use table::Reported;
+pub use table::Table;

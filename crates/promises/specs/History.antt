@@ -1,0 +1,115 @@
+-- Whole histories: which events are accepted, whom they list as woken, and which requests leave in their course.
+use Prim.Native.Nat.{ℕ, zero, suc, _+_, _≤_}
+use mathlib.Core.Bool.{Bool, true, false, cond, false≢true}
+use mathlib.Core.List.{List, [], _∷_}
+use mathlib.Core.Path.{_≡_, refl, ap, _∙_}
+use borrow.Author.Tests.{eq-eqb, le-ltb}
+use lib.Dec.{eqb}
+use lib.ListN.{length}
+use Rattle.event.specs.declared.said.Event.{Event}
+use Rattle.event.specs.declared.said.Event.the-variants.{Beat, Open, Ask, Release, Complete}
+use Rattle.laws.specs.Bools.{bit}
+use Rattle.laws.specs.Cases.{Outcome, refused, fine, first, keepUnless, leaves, outcome, unless}
+use Rattle.laws.specs.Front.{over}
+use Rattle.rows.specs.Order.{jobs}
+use Rattle.rows.specs.declared.row.Row.{Row}
+use Rattle.arbiter.specs.Meaning.{accepted, answer, listed, next, told, wakes}
+use Rattle.arbiter.specs.Refusals.{cases}
+use Rattle.arbiter.specs.declared.table.Table.{Table}
+use Rattle.promises.specs.KeptAccepted.{Accepts, Acts, complete-acts}
+use Rattle.promises.specs.Sound.{rowIn}
+
+-- ---- Definitions
+
+-- an answer is no refusal
+abbrev pub isFine : {A : Type 0} → Outcome A → Bool
+isFine (refused n) = false
+isFine (fine a) = true
+
+-- an event is accepted
+abbrev pub taken : Table → Event → Bool
+taken t e = isFine (answer jobs t e)
+
+-- the jobs that an event lists as woken; a refused one lists none
+abbrev pub lists : Table → Event → List ℕ
+lists t e = cond (taken t e) (wakes t e) []
+
+-- an event names job j
+abbrev pub names : ℕ → Event → Bool
+names j (Beat tick) = false
+names j (Open i tick s) = eqb i j
+names j (Ask i tick s) = eqb i j
+names j (Release i tick s) = eqb i j
+names j (Complete i tick) = eqb i j
+
+-- how many requests whose row passes f leave by an accepted event: by a completion its own, by no other event any
+abbrev pub leaving : (Row → Bool) → Table → Event → ℕ
+leaving f t (Beat tick) = 0
+leaving f t (Open j tick s) = 0
+leaving f t (Ask j tick s) = 0
+leaving f t (Release j tick s) = 0
+leaving f t (Complete j tick) = bit (f (rowIn t j))
+
+-- how many requests whose row passes f leave in the course of events: `leavings live` are all accepted completions
+unfoldable pub leavings : (Row → Bool) → Table → List Event → ℕ
+leavings f t [] = 0
+leavings f t (e ∷ es) = cond (taken t e) (leaving f t e) 0 + leavings f (next jobs t e) es
+
+-- the accepted ones of a sequence of events
+unfoldable pub heeded : Table → List Event → List Event
+heeded t [] = []
+heeded t (e ∷ es) = cond (taken t e) (e ∷ heeded (next jobs t e) es) (heeded (next jobs t e) es)
+
+-- ---- What an event leaves, accepted or not
+
+module _ (t : Table) (e : Event) where
+  -- an event is accepted, and the next table is that of an accepted event; or it is refused, and the table stays
+  pub next-either : (P : Bool → Table → Type 0) → (Accepts jobs t e → P true (accepted t e)) → P false t → P (taken t e) (next jobs t e)
+  unfolding answer outcome next leaves
+  next-either P takes refuses = go (first (cases jobs t e)) takes
+    where
+      go : (k : ℕ) → (k ≡ 0 → P true (accepted t e)) → P (isFine (unless k (told t e))) (keepUnless k t (accepted t e))
+      go zero takes = takes refl
+      go (suc k) takes = refuses
+
+  -- an event is accepted exactly if no case refuses it
+  pub accepts : taken t e ≡ true → Accepts jobs t e
+  unfolding answer outcome
+  accepts = go (first (cases jobs t e))
+    where
+      go : (k : ℕ) → isFine (unless k (told t e)) ≡ true → k ≡ 0
+      go zero h = refl
+      go (suc k) h = absurd (false≢true h)
+
+-- ---- Who leaves
+
+-- by an accepted event no request leaves, or that of the job which it names, and which may act
+pub data Leaves (t : Table) (e : Event) : Type 0 where
+  none : ((f : Row → Bool) → leaving f t e ≡ 0) → Leaves t e
+  one : (i : ℕ) → Acts t i → names i e ≡ true → ((f : Row → Bool) → leaving f t e ≡ bit (f (rowIn t i))) → Leaves t e
+
+pub who-leaves : (t : Table) (e : Event) → Accepts jobs t e → Leaves t e
+who-leaves t (Beat tick) ok = none (λ f. refl)
+who-leaves t (Open j tick s) ok = none (λ f. refl)
+who-leaves t (Ask j tick s) ok = none (λ f. refl)
+who-leaves t (Release j tick s) ok = none (λ f. refl)
+who-leaves t (Complete j tick) ok = one j (complete-acts jobs t j tick ok) (eq-eqb j j refl) (λ f. refl)
+
+-- ---- What is listed is what a lent list that is long enough holds at its front
+
+-- such a list is never too short
+first-long : (n : ℕ) (t : Table) (e : Event) → jobs ≤ n → first (cases n t e) ≡ first (cases jobs t e)
+first-long n t (Beat tick) h = refl
+first-long n t (Open j tick s) h = refl
+first-long n t (Ask j tick s) h = refl
+first-long n t (Release j tick s) h = refl
+first-long n t (Complete j tick) h = rw (le-ltb n jobs h)
+
+pub listed-front : (t : Table) (e : Event) (out : List ℕ) → jobs ≤ length out → listed t e out ≡ over (lists t e) out
+unfolding answer outcome leaves listed over
+listed-front t e out h =
+    ap (λ (k : ℕ). keepUnless k out (over (wakes t e) out)) (first-long (length out) t e h) ∙ go (first (cases jobs t e))
+  where
+    go : (k : ℕ) → keepUnless k out (over (wakes t e) out) ≡ over (cond (isFine (unless k (told t e))) (wakes t e) []) out
+    go zero = refl
+    go (suc k) = refl

@@ -1,0 +1,23 @@
+-- What every table that calls lead to keeps, and what whole histories show.
+pub mod Demand
+pub mod DemandExample
+pub mod DemandHolds
+pub mod DemandOthers
+pub mod DemandSets
+pub mod DemandToken
+pub mod Determined
+pub mod History
+pub mod HistoryCount
+pub mod HistoryRow
+pub mod HistoryTurn
+pub mod HistoryWoken
+pub mod Kept
+pub mod KeptAccepted
+pub mod KeptDecided
+pub mod KeptEvents
+pub mod KeptNamed
+pub mod KeptRows
+pub mod KeptWoken
+pub mod Sound
+pub mod SoundFacts
+pub mod SoundTokens

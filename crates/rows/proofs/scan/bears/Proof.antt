@@ -1,0 +1,20 @@
+-- `rows::scan::bears` meets its contract: both tests are those of the definition.
+use mathlib.Core.Path.{sym, _∙_}
+use borrow.Author.Needs.{needs}
+use Rattle.rows.proofs.scan.bears.Statement.{statement}
+use Rattle.rows.proofs.scan.bears.Tie as tie
+
+live-requires : tie.Need-live-requires
+live-requires c κs = search needs
+
+same-requires : tie.Need-same-requires
+same-requires c κs = search needs
+
+returns : tie.Need-returns
+returns c = rw (sym (c .before .before .live .ensures) ∙ c .before .if1 .taken) (c .same .ensures)
+
+returns-2 : tie.Need-returns-2
+returns-2 c = rw (sym (c .before .live .ensures) ∙ c .if1 .left) (c .if1 .left)
+
+pub bears-spec : {M : Type 1} → statement M
+bears-spec = tie.close (tie.spec live-requires same-requires returns returns-2)

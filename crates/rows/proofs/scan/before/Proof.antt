@@ -1,0 +1,20 @@
+-- `rows::scan::before` meets its contract: both tests are those of the definition.
+use mathlib.Core.Path.{sym, _∙_}
+use borrow.Author.Needs.{needs}
+use Rattle.rows.proofs.scan.before.Statement.{statement}
+use Rattle.rows.proofs.scan.before.Tie as tie
+
+live-requires : tie.Need-live-requires
+live-requires c κs = search needs
+
+earlier-requires : tie.Need-earlier-requires
+earlier-requires c κs = search needs
+
+returns : tie.Need-returns
+returns c = rw (sym (c .before .before .live .ensures) ∙ c .before .if1 .taken) (c .earlier .ensures)
+
+returns-2 : tie.Need-returns-2
+returns-2 c = rw (sym (c .before .live .ensures) ∙ c .if1 .left) (c .if1 .left)
+
+pub before-spec : {M : Type 1} → statement M
+before-spec = tie.close (tie.spec live-requires earlier-requires returns returns-2)

@@ -1,0 +1,20 @@
+-- `rows::scan::claims` meets its contract: both tests are those of the definition.
+use mathlib.Core.Path.{sym, _∙_}
+use borrow.Author.Needs.{needs}
+use Rattle.rows.proofs.scan.claims.Statement.{statement}
+use Rattle.rows.proofs.scan.claims.Tie as tie
+
+before-requires : tie.Need-before-requires
+before-requires c κs = search needs
+
+meets-requires : tie.Need-meets-requires
+meets-requires c κs = search needs
+
+returns : tie.Need-returns
+returns c = rw (sym (c .before .before .before2 .ensures) ∙ c .before .if1 .taken) (c .meets .ensures)
+
+returns-2 : tie.Need-returns-2
+returns-2 c = rw (sym (c .before .before2 .ensures) ∙ c .if1 .left) (c .if1 .left)
+
+pub claims-spec : {M : Type 1} → statement M
+claims-spec = tie.close (tie.spec before-requires meets-requires returns returns-2)

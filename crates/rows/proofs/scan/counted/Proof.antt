@@ -1,0 +1,18 @@
+-- `rows::scan::counted` meets its contract, by the two cases.
+use mathlib.Core.Path.{sym}
+use native.Mathlib.Nat.{add-zero}
+use borrow.Author.Needs.{needs}
+use Rattle.rows.proofs.scan.counted.Statement.{statement}
+use Rattle.rows.proofs.scan.counted.Tie as tie
+
+add-result : tie.Need-add-result
+add-result c = search needs
+
+returns : tie.Need-returns
+returns c = rw (c .if1 .taken)
+
+returns-2 : tie.Need-returns-2
+returns-2 c = rw (c .if1 .left) (sym (add-zero (c .before .args .n)))
+
+pub counted-spec : {M : Type 1} → statement M
+counted-spec = tie.close (tie.spec add-result returns returns-2)

@@ -1,0 +1,24 @@
+-- `rows::scan::joined` meets its contract, by the two cases.
+use mathlib.Core.Path.{sym, _∙_}
+use borrow.Author.Needs.{needs}
+use borrow.Author.Tests.{not-true, not-false}
+use Rattle.rows.proofs.scan.joined.Statement.{statement}
+use Rattle.rows.proofs.scan.joined.Tie as tie
+
+before-requires : tie.Need-before-requires
+before-requires c κs = search needs
+
+returns : tie.Need-returns
+returns c = rw (sym (c .before .before2 .ensures) ∙ not-true (c .before .before2 .result) (c .if1 .taken))
+
+add-t6 : tie.Need-add-t6
+add-t6 c = search needs
+
+union-requires : tie.Need-union-requires
+union-requires c κs = search needs
+
+returns-2 : tie.Need-returns-2
+returns-2 c = rw (sym (c .before .before .before .before2 .ensures) ∙ not-false (c .before .before .before .before2 .result) (c .before .before .if1 .left), c .union .ensures)
+
+pub joined-spec : {M : Type 1} → statement M
+joined-spec = tie.close (tie.spec before-requires returns add-t6 union-requires returns-2)

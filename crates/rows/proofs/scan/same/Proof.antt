@@ -1,0 +1,41 @@
+-- `rows::scan::same` meets its contract: two turns are one where neither is the lower.
+use Prim.Native.Nat.{ℕ}
+use mathlib.Core.Bool.{Bool, true, false, not, _&&_}
+use mathlib.Core.Path.{_≡_, refl, sym, _∙_}
+use native.Mathlib.Omega.{arith}
+use borrow.Author.Needs.{needs}
+use borrow.Author.Tests.{eq-eqb, ltb-false, ltb-true, ne-eqb, not-false, not-true}
+use lib.Dec.{eqb, ltb}
+use Rattle.rows.proofs.scan.same.Statement.{statement}
+use Rattle.rows.proofs.scan.same.Tie as tie
+
+-- two numbers are equal where neither is the lower
+neither-lower : (a b : ℕ) → (not (ltb a b) && not (ltb b a)) ≡ eqb a b
+neither-lower a b = go (ltb a b) (ltb b a) refl refl
+  where
+    go : (x y : Bool) → ltb a b ≡ x → ltb b a ≡ y → (not x && not y) ≡ eqb a b
+    go true y p q = sym (ne-eqb a b (omega (arith, ltb-true a b p)))
+    go false true p q = sym (ne-eqb a b (omega (arith, ltb-true b a q)))
+    go false false p q = sym (eq-eqb a b (omega (arith, ltb-false a b p, ltb-false b a q)))
+
+earlier-requires : tie.Need-earlier-requires
+earlier-requires c κs = search needs
+
+earlier-requires-2 : tie.Need-earlier-requires-2
+earlier-requires-2 c κs = search needs
+
+returns : tie.Need-returns
+returns c =
+    let a = c .before .before .before .args in
+    let first = c .before .before .earlier in
+    rw (c .earlier2 .ensures)
+    (rw (sym (first .ensures) ∙ not-true (first .result) (c .before .if1 .taken)) at (neither-lower (a .a .0) (a .b .0)))
+
+returns-2 : tie.Need-returns-2
+returns-2 c =
+    let a = c .before .before .args in
+    let first = c .before .earlier in
+    c .if1 .left ∙ rw (sym (first .ensures) ∙ not-false (first .result) (c .if1 .left)) at (neither-lower (a .a .0) (a .b .0))
+
+pub same-spec : {M : Type 1} → statement M
+same-spec = tie.close (tie.spec earlier-requires earlier-requires-2 returns returns-2)

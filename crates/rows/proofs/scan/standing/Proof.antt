@@ -1,0 +1,67 @@
+-- `rows::scan::standing` meets its contract. The loop's invariant: `s` is what the rows before place `i` tell.
+use Prim.Native.Nat.{_≤_, _-_}
+use native.Mathlib.Omega.{arith}
+use borrow.Author.Needs.{needs}
+use Rattle.laws.specs.Lists.{passed-le}
+use Rattle.rows.proofs.Seen.{Seen, all-seen, more-seen, none-seen}
+use Rattle.rows.specs.Order.{earlier, jobs}
+use Rattle.rows.proofs.scan.standing.Statement.{statement}
+use Rattle.rows.proofs.scan.standing.Tie as tie
+
+abbrev Inv-loop : tie.InvT-loop
+Inv-loop turn rows s₀ i₀ s i = (i ≤ jobs) × Seen rows (turn .0) s i
+
+abbrev μ-loop : tie.MeasureT-loop
+μ-loop turn rows s₀ i₀ s i = jobs - i
+
+unknown-requires : tie.Need-unknown-requires Inv-loop μ-loop
+unknown-requires c κs = search needs
+
+loop-holds : tie.Need-loop-holds Inv-loop μ-loop
+loop-holds c = (search needs, rw (c .unknown .ensures) (none-seen (c .before .args .t1) (c .before .args .turn .0)))
+
+mul-r : tie.Need-mul-r Inv-loop μ-loop
+mul-r c = search needs
+
+array-copy-out-r : tie.Need-array-copy-out-r Inv-loop μ-loop
+array-copy-out-r c = search needs
+
+joined-requires : tie.Need-joined-requires Inv-loop μ-loop
+joined-requires c κs =
+    let a = c .before .before .before .before .args in
+    let at = c .before .before .loop in
+    omega (arith, passed-le (earlier (a .turn .0)) (a .t1) (at .i) (at .s .ahead) (at .inv .1 .counted))
+
+add-i : tie.Need-add-i Inv-loop μ-loop
+add-i c = search needs
+
+loop-less : tie.Need-loop-less Inv-loop μ-loop
+loop-less c = search needs
+
+loop-again : tie.Need-loop-again Inv-loop μ-loop
+loop-again c =
+    let a = c .before .before .before .before .before .args in
+    let at = c .before .before .before .loop in
+    (search needs, rw (c .joined .ensures) (more-seen (a .t1) (a .turn .0) (at .s) (at .i) (search needs) (at .inv .1)))
+
+returns : tie.Need-returns Inv-loop μ-loop
+returns c =
+    let a = c .before .before .before .args in
+    let at = c .before .loop in
+    all-seen (a .t1) (a .turn .0) (at .s) (at .i) (search needs) (at .inv .1)
+
+pub standing-spec : {M : Type 1} → statement M
+standing-spec =
+    tie.close
+    (tie.spec
+    Inv-loop
+    μ-loop
+    unknown-requires
+    loop-holds
+    mul-r
+    array-copy-out-r
+    joined-requires
+    add-i
+    loop-less
+    loop-again
+    returns)

@@ -1,0 +1,86 @@
+-- `rows::scan::survey` meets its contract. The loop's invariant: the standings before place `i` are those of their rows' turns.
+use Prim.Native.Nat.{ℕ, _≤_, _-_}
+use mathlib.Core.List.{List}
+use mathlib.Core.Path.{_≡_, refl}
+use native.Mathlib.Omega.{arith}
+use borrow.Author.Needs.{needs}
+use lib.ListN.{length}
+use Rattle.laws.specs.Lists.{Filled, filled-more}
+use Rattle.rows.specs.Line.{rowOf}
+use Rattle.rows.specs.Order.{jobs}
+use Rattle.rows.specs.Stand.{Stands, unknown}
+use Rattle.rows.specs.declared.row.Row.{Row}
+use Rattle.rows.specs.declared.stand.Standing.{Standing}
+use Rattle.rows.proofs.scan.survey.Statement.{statement}
+use Rattle.rows.proofs.scan.survey.Tie as tie
+
+abbrev Known : List Row → ℕ → Standing → Type 0
+Known rows j s = Stands rows (rowOf rows j .turn .0) s
+
+abbrev Inv-loop : tie.InvT-loop
+Inv-loop rows standings₀ i₀ standings i = (i ≤ jobs) × (length standings ≡ jobs) × Filled (Known rows) unknown standings i
+
+abbrev μ-loop : tie.MeasureT-loop
+μ-loop rows standings₀ i₀ standings i = jobs - i
+
+unknown-requires : tie.Need-unknown-requires Inv-loop μ-loop
+unknown-requires c κs = search needs
+
+loop-holds : tie.Need-loop-holds Inv-loop μ-loop
+loop-holds c = (search needs, refl, λ k h. absurd (omega arith))
+
+mul-r : tie.Need-mul-r Inv-loop μ-loop
+mul-r c = search needs
+
+array-copy-out-r : tie.Need-array-copy-out-r Inv-loop μ-loop
+array-copy-out-r c = search needs
+
+standing-requires : tie.Need-standing-requires Inv-loop μ-loop
+standing-requires c κs = search needs
+
+mul-standings : tie.Need-mul-standings Inv-loop μ-loop
+mul-standings c = search needs
+
+array-set-from-standings : tie.Need-array-set-from-standings Inv-loop μ-loop
+array-set-from-standings c = search needs
+
+add-i : tie.Need-add-i Inv-loop μ-loop
+add-i c = search needs
+
+loop-less : tie.Need-loop-less Inv-loop μ-loop
+loop-less c = search needs
+
+loop-again : tie.Need-loop-again Inv-loop μ-loop
+loop-again c =
+    let a = c .before .before .before .before .before .before .args in
+    let at = c .before .before .before .before .loop in (
+      search needs,
+      search needs,
+      filled-more (Known (a .t1)) unknown (at .standings) (at .i) (c .standing .result) (search needs) (at .inv .2)
+          (c .standing .ensures),
+    )
+
+distinct-requires : tie.Need-distinct-requires Inv-loop μ-loop
+distinct-requires c κs = search needs
+
+returns : tie.Need-returns Inv-loop μ-loop
+returns c = record { each = λ j h. c .before .before .loop .inv .2 j (omega arith); apart = c .distinct .ensures }
+
+pub survey-spec : {M : Type 1} → statement M
+survey-spec =
+    tie.close
+    (tie.spec
+    Inv-loop
+    μ-loop
+    unknown-requires
+    loop-holds
+    mul-r
+    array-copy-out-r
+    standing-requires
+    mul-standings
+    array-set-from-standings
+    add-i
+    loop-less
+    loop-again
+    distinct-requires
+    returns)

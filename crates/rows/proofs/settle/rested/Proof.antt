@@ -1,0 +1,17 @@
+-- `rows::settle::rested` meets its contract, by the two cases.
+use mathlib.Core.Path.{sym, _∙_}
+use borrow.Author.Needs.{needs}
+use Rattle.rows.proofs.settle.rested.Statement.{statement}
+use Rattle.rows.proofs.settle.rested.Tie as tie
+
+waiting-requires : tie.Need-waiting-requires
+waiting-requires c κs = search needs
+
+returns : tie.Need-returns
+returns c = rw (sym (c .before .waiting .ensures) ∙ c .if1 .taken)
+
+returns-2 : tie.Need-returns-2
+returns-2 c = rw (sym (c .before .waiting .ensures) ∙ c .if1 .left)
+
+pub rested-spec : {M : Type 1} → statement M
+rested-spec = tie.close (tie.spec waiting-requires returns returns-2)

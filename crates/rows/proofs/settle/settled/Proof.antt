@@ -1,0 +1,96 @@
+-- `rows::settle::settled` meets its contract. The loop's invariant: the rows before place `i` are swept.
+use Prim.Native.Nat.{ℕ, _≤_, _-_}
+use mathlib.Core.List.{List}
+use mathlib.Core.Path.{_≡_, sym, _∙_}
+use native.Mathlib.Omega.{arith}
+use borrow.Author.Needs.{needs}
+use lib.ListN.{getD, length}
+use lib.Seq.{ext-getD}
+use Rattle.laws.specs.Lists.{Filled, filled-more}
+use Rattle.rows.specs.Known.{swept-by}
+use Rattle.rows.specs.Line.{rowOf}
+use Rattle.rows.specs.Order.{idle, jobs}
+use Rattle.rows.specs.Stand.{unknown}
+use Rattle.rows.specs.Sweep.{length-settled, row-settled, settled, swept}
+use Rattle.rows.specs.declared.row.Row.{Row}
+use Rattle.rows.proofs.settle.settled.Statement.{statement}
+use Rattle.rows.proofs.settle.settled.Tie as tie
+
+abbrev Swept : ℕ → List Row → ℕ → Row → Type 0
+Swept T rows j x = x ≡ swept T rows (rowOf rows j)
+
+abbrev Inv-loop : tie.InvT-loop
+Inv-loop tokens rows standings next₀ i₀ next i = (i ≤ jobs) × (length next ≡ jobs) × Filled (Swept tokens rows) idle next i
+
+abbrev μ-loop : tie.MeasureT-loop
+μ-loop tokens rows standings next₀ i₀ next i = jobs - i
+
+loop-holds : tie.Need-loop-holds Inv-loop μ-loop
+loop-holds c = (search needs, search needs, λ k h. absurd (omega arith))
+
+mul-r : tie.Need-mul-r Inv-loop μ-loop
+mul-r c = search needs
+
+array-copy-out-r : tie.Need-array-copy-out-r Inv-loop μ-loop
+array-copy-out-r c = search needs
+
+mul-s : tie.Need-mul-s Inv-loop μ-loop
+mul-s c = search needs
+
+array-copy-out-s : tie.Need-array-copy-out-s Inv-loop μ-loop
+array-copy-out-s c = search needs
+
+settle-requires : tie.Need-settle-requires Inv-loop μ-loop
+settle-requires c κs = search needs
+
+mul-next : tie.Need-mul-next Inv-loop μ-loop
+mul-next c = search needs
+
+array-set-from-next : tie.Need-array-set-from-next Inv-loop μ-loop
+array-set-from-next c = search needs
+
+add-i : tie.Need-add-i Inv-loop μ-loop
+add-i c = search needs
+
+loop-less : tie.Need-loop-less Inv-loop μ-loop
+loop-less c = search needs
+
+loop-again : tie.Need-loop-again Inv-loop μ-loop
+loop-again c =
+    let start = c .before .before .before .before .before .before in
+    let a = start .args in
+    let at = c .before .before .before .before .loop in
+    let s = getD (a .known .standings) (at .i) unknown in
+    let here = swept-by (a .tokens) (a .t1) s (rowOf (a .t1) (at .i)) (start .pre .each (at .i) (search needs)) in (
+      search needs,
+      search needs,
+      filled-more (Swept (a .tokens) (a .t1)) idle (at .next) (at .i) (c .settle .result) (search needs) (at .inv .2)
+          (c .settle .ensures ∙ here),
+    )
+
+returns : tie.Need-returns Inv-loop μ-loop
+returns c =
+    let a = c .before .before .before .args in
+    let at = c .before .loop in
+    ext-getD idle (at .next) (settled (a .tokens) (a .t1))
+    (omega (arith, length-settled (a .tokens) (a .t1), at .inv .1))
+    (λ i h. at .inv .2 i (omega arith) ∙ sym (row-settled (a .tokens) (a .t1) i))
+
+pub settled-spec : {M : Type 1} → statement M
+settled-spec =
+    tie.close
+    (tie.spec
+    Inv-loop
+    μ-loop
+    loop-holds
+    mul-r
+    array-copy-out-r
+    mul-s
+    array-copy-out-s
+    settle-requires
+    mul-next
+    array-set-from-next
+    add-i
+    loop-less
+    loop-again
+    returns)

@@ -1,0 +1,27 @@
+-- `rows::settle::waiting` meets its contract: the tests are those of the definition.
+use mathlib.Core.Path.{sym, _∙_}
+use borrow.Author.Needs.{needs}
+use Rattle.rows.proofs.settle.waiting.Statement.{statement}
+use Rattle.rows.proofs.settle.waiting.Tie as tie
+
+live-requires : tie.Need-live-requires
+live-requires c κs = search needs
+
+token-requires : tie.Need-token-requires
+token-requires c κs = search needs
+
+returns : tie.Need-returns
+returns c =
+    rw
+    (sym (c .before .before .before .live .ensures) ∙ c .before .before .if1 .taken, sym (c .before .token .ensures), c .if2 .taken)
+
+returns-2 : tie.Need-returns-2
+returns-2 c =
+    rw
+    (sym (c .before .before .before .before .live .ensures) ∙ c .before .before .before .if1 .taken, sym (c .before .before .token .ensures), c .before .if2 .left)
+
+returns-3 : tie.Need-returns-3
+returns-3 c = rw (sym (c .before .live .ensures) ∙ c .if1 .left) (c .if1 .left)
+
+pub waiting-spec : {M : Type 1} → statement M
+waiting-spec = tie.close (tie.spec live-requires token-requires returns returns-2 returns-3)

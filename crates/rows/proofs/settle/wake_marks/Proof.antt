@@ -1,0 +1,105 @@
+-- `rows::settle::wake_marks` meets its contract. The loop's invariant: the marks before place `i` are right.
+use Prim.Native.Nat.{ℕ, _≤_, _-_}
+use mathlib.Core.Bool.{Bool, false}
+use mathlib.Core.List.{List}
+use mathlib.Core.Path.{_≡_, refl, _∙_}
+use native.Mathlib.Omega.{arith}
+use borrow.Author.Needs.{needs}
+use lib.ListN.{getD, length}
+use Rattle.laws.specs.Lists.{Filled, filled-more}
+use Rattle.rows.specs.Known.{woke-by}
+use Rattle.rows.specs.Order.{jobs}
+use Rattle.rows.specs.Stand.{unknown}
+use Rattle.rows.specs.Sweep.{woke}
+use Rattle.rows.specs.declared.row.Row.{Row}
+use Rattle.rows.proofs.settle.wake_marks.Statement.{statement}
+use Rattle.rows.proofs.settle.wake_marks.Tie as tie
+
+abbrev Woke : ℕ → List Row → List Row → ℕ → Bool → Type 0
+Woke T before after j b = b ≡ woke T before after j
+
+abbrev Inv-loop : tie.InvT-loop
+Inv-loop tokens before after standings standings-after marks₀ i₀ marks i = (i ≤ jobs) × (length marks ≡ jobs) × Filled (Woke tokens before after) false marks i
+
+abbrev μ-loop : tie.MeasureT-loop
+μ-loop tokens before after standings standings-after marks₀ i₀ marks i = jobs - i
+
+loop-holds : tie.Need-loop-holds Inv-loop μ-loop
+loop-holds c = (search needs, refl, λ k h. absurd (omega arith))
+
+mul-r : tie.Need-mul-r Inv-loop μ-loop
+mul-r c = search needs
+
+array-copy-out-r : tie.Need-array-copy-out-r Inv-loop μ-loop
+array-copy-out-r c = search needs
+
+mul-s : tie.Need-mul-s Inv-loop μ-loop
+mul-s c = search needs
+
+array-copy-out-s : tie.Need-array-copy-out-s Inv-loop μ-loop
+array-copy-out-s c = search needs
+
+mul-x : tie.Need-mul-x Inv-loop μ-loop
+mul-x c = search needs
+
+array-copy-out-x : tie.Need-array-copy-out-x Inv-loop μ-loop
+array-copy-out-x c = search needs
+
+mul-t : tie.Need-mul-t Inv-loop μ-loop
+mul-t c = search needs
+
+array-copy-out-t : tie.Need-array-copy-out-t Inv-loop μ-loop
+array-copy-out-t c = search needs
+
+wakes-requires : tie.Need-wakes-requires Inv-loop μ-loop
+wakes-requires c κs = search needs
+
+array-write-marks : tie.Need-array-write-marks Inv-loop μ-loop
+array-write-marks c = search needs
+
+add-i : tie.Need-add-i Inv-loop μ-loop
+add-i c = search needs
+
+loop-less : tie.Need-loop-less Inv-loop μ-loop
+loop-less c = search needs
+
+loop-again : tie.Need-loop-again Inv-loop μ-loop
+loop-again c =
+    let start = c .before .before .before .before .before .before .before .before .before in
+    let a = start .args in
+    let at = c .before .before .before .before .before .before .loop in
+    let s = getD (a .known .standings) (at .i) unknown in
+    let t = getD (a .known-after .standings) (at .i) unknown in
+    let here =
+    woke-by (a .tokens) (a .t1) (a .t3) (at .i) s t (start .pre .0 .each (at .i) (search needs))
+    (start .pre .1 .each (at .i) (search needs)) in (
+      search needs,
+      search needs,
+      filled-more (Woke (a .tokens) (a .t1) (a .t3)) false (at .marks) (at .i) (c .wakes .result) (search needs) (at .inv .2)
+          (c .wakes .ensures ∙ here),
+    )
+
+returns : tie.Need-returns Inv-loop μ-loop
+returns c = λ j h. c .before .loop .inv .2 j (omega arith)
+
+pub wake-marks-spec : {M : Type 1} → statement M
+wake-marks-spec =
+    tie.close
+    (tie.spec
+    Inv-loop
+    μ-loop
+    loop-holds
+    mul-r
+    array-copy-out-r
+    mul-s
+    array-copy-out-s
+    mul-x
+    array-copy-out-x
+    mul-t
+    array-copy-out-t
+    wakes-requires
+    array-write-marks
+    add-i
+    loop-less
+    loop-again
+    returns)

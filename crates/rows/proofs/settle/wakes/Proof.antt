@@ -1,0 +1,20 @@
+-- `rows::settle::wakes` meets its contract: both tests are those of the definition.
+use mathlib.Core.Path.{sym, _∙_}
+use borrow.Author.Needs.{needs}
+use Rattle.rows.proofs.settle.wakes.Statement.{statement}
+use Rattle.rows.proofs.settle.wakes.Tie as tie
+
+waiting-requires : tie.Need-waiting-requires
+waiting-requires c κs = search needs
+
+waiting-requires-2 : tie.Need-waiting-requires-2
+waiting-requires-2 c κs = search needs
+
+returns : tie.Need-returns
+returns c = rw (sym (c .before .before .waiting .ensures) ∙ c .before .if1 .taken, c .waiting2 .ensures)
+
+returns-2 : tie.Need-returns-2
+returns-2 c = rw (sym (c .before .waiting .ensures) ∙ c .if1 .left) (c .if1 .left)
+
+pub wakes-spec : {M : Type 1} → statement M
+wakes-spec = tie.close (tie.spec waiting-requires waiting-requires-2 returns returns-2)

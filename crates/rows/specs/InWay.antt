@@ -1,0 +1,88 @@
+-- Who is in the way, by name: the reading of Q3 by rows and resources.
+use Prim.Native.Nat.{ℕ, _<_, _≤_}
+use mathlib.Core.Bool.{Bool, true, false, and-eq-true-iff, false≢true}
+use mathlib.Core.List.{List}
+use mathlib.Core.Path.{_≡_, refl, sym, _∙_}
+use native.Mathlib.Omega.{arith}
+use Rattle.laws.specs.Bools.{and-left}
+use Rattle.laws.specs.Counts.{count-at, count-mono, count-some}
+use Rattle.laws.specs.Sets.{inside, inside-reads, meets, meets-reads, member, member-empty, member-union, union}
+use Rattle.rows.specs.Line.{rowOf}
+use Rattle.rows.specs.Order.{ahead, claims, earlier, idle, inWay}
+use Rattle.rows.specs.declared.row.Row.{Row}
+use Rattle.rows.specs.Turns.{earlier-turn, turn-earlier}
+
+-- somebody in the way of turn n at set s: a live row of lower turn that declares a member of s
+pub record InTheWay (rows : List Row) (n s : ℕ) : Type 0 where
+  pub job : ℕ
+  pub alive : 0 < rowOf rows job .turn .0
+  pub before : rowOf rows job .turn .0 < n
+  pub resource : ℕ
+  pub declared : member (rowOf rows job .declared) resource ≡ true
+  pub wanted : member s resource ≡ true
+
+module _ (rows : List Row) (n : ℕ) where
+  -- where the number in the way is above 0, here is one of them; and back
+  pub in-way-some : (s : ℕ) → 0 < inWay rows n s → InTheWay rows n s
+  unfolding inWay
+  in-way-some s h =
+      let p = count-some (claims n s) idle rows h in
+      let r = rowOf rows (p .0) in
+      let both = and-eq-true-iff (earlier n r) (meets (r .declared) s) .0 (p .1) in
+      let stands = earlier-turn n r (both .0) in
+      let shared = meets-reads (r .declared) s .holds .0 (both .1) in
+      record {
+        job = p .0;
+        alive = stands .0;
+        before = stands .1;
+        resource = shared .0;
+        declared = shared .1;
+        wanted = shared .2;
+      }
+
+  pub in-way-at : (s : ℕ) → InTheWay rows n s → 0 < inWay rows n s
+  unfolding inWay
+  in-way-at s w =
+      let r = rowOf rows (w .job) in
+      count-at (claims n s) idle refl rows (w .job)
+      (rw (turn-earlier n r (w .alive) (w .before))
+      (meets-reads (r .declared) s .holds .1 (w .resource, w .declared, w .wanted)))
+
+  -- of a higher turn no fewer stand before it
+  pub ahead-mono : (m : ℕ) → n ≤ m → ahead rows n ≤ ahead rows m
+  unfolding ahead
+  ahead-mono m h =
+      count-mono (earlier m) idle refl (earlier n) rows rows
+      (λ k e. let p = earlier-turn n (rowOf rows k) e in turn-earlier m (rowOf rows k) (p .0) (omega arith))
+
+  -- whoever is in the way is ahead
+  pub in-way-ahead : (s : ℕ) → inWay rows n s ≤ ahead rows n
+  unfolding ahead inWay
+  in-way-ahead s =
+      count-mono (earlier n) idle refl (claims n s) rows rows
+      (λ k e. and-left (earlier n (rowOf rows k)) (meets (rowOf rows k .declared) s) e)
+
+  -- whoever is in the way at s by a member of u is in the way at u, so u cannot be free
+  not-free : {s : ℕ} (w : InTheWay rows n s) (u : ℕ) → member u (w .resource) ≡ true → ¬ (inWay rows n u ≡ 0)
+  not-free w u m none =
+      let at-u =
+      in-way-at u
+      (record { job = w .job; alive = w .alive; before = w .before; resource = w .resource; declared = w .declared; wanted = m }) in
+      omega arith
+
+  free : (s : ℕ) → ¬ (InTheWay rows n s) → inWay rows n s ≡ 0
+  free s nobody = let none : ¬ (0 < inWay rows n s) = λ h. nobody (in-way-some s h) in omega arith
+
+  pub in-way-empty : inWay rows n 0 ≡ 0
+  in-way-empty = free 0 (λ w. false≢true (sym (member-empty (w .resource)) ∙ w .wanted))
+
+  -- nobody is in the way at a part of a set, or at two sets together, where nobody is at the whole, or at each
+  pub in-way-inside : (s u : ℕ) → inside s u ≡ true → inWay rows n u ≡ 0 → inWay rows n s ≡ 0
+  in-way-inside s u i none = free s (λ w. not-free w u (inside-reads s u .holds .0 i (w .resource) (w .wanted)) none)
+
+  pub in-way-union : (s u : ℕ) → inWay rows n s ≡ 0 → inWay rows n u ≡ 0 → inWay rows n (union s u) ≡ 0
+  in-way-union s u p q = free (union s u) (λ w. go w (member s (w .resource)) refl)
+    where
+      go : (w : InTheWay rows n (union s u)) (b : Bool) → member s (w .resource) ≡ b → ⊥
+      go w true e = not-free w s e p
+      go w false e = not-free w u (rw (member-union, e) at (w .wanted)) q

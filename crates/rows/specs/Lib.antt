@@ -1,0 +1,10 @@
+-- What is said of rows: document 01, "What a table holds" and "The events".
+pub mod InLine
+pub mod InWay
+pub mod Known
+pub mod Line
+pub mod Marks
+pub mod Order
+pub mod Stand
+pub mod Sweep
+pub mod Turns

@@ -1,0 +1,106 @@
+-- The order of opening, and the two questions about it that decide everything: who stands before, and who is in the way.
+use Prim.Native.Nat.{ℕ, _+_, _<_}
+use mathlib.Core.Bool.{Bool, not, _&&_, _||_}
+use mathlib.Core.List.{List, map}
+use mathlib.Core.Path.{_≡_, refl, sym, ap, fun-ext, _∙_}
+use lib.Dec.{eqb, ltb}
+use lib.ListN.{getD, length, set}
+use Rattle.laws.specs.Bools.{bit}
+use Rattle.laws.specs.Lists.{all, all-map, count, count-map, count-set}
+use Rattle.laws.specs.Sets.{meets}
+use Rattle.rows.specs.declared.row.Row.{Row}
+
+-- how many jobs there are, and so how many rows
+abbrev pub jobs : ℕ
+jobs = 64
+
+-- the row of a job that has no request
+abbrev pub idle : Row
+idle = record { turn = record { 0 = 0 }; declared = 0; held = 0; asked = 0; since = 0 }
+
+-- turn 0 makes a row idle, any other turn live
+abbrev pub live : Row → Bool
+live r = ltb 0 (r .turn .0)
+
+-- a live row of lower turn than n
+abbrev pub earlier : ℕ → Row → Bool
+earlier n r = live r && ltb (r .turn .0) n
+
+-- "ahead": how many live rows have a lower turn than n
+unfoldable pub ahead : List Row → ℕ → ℕ
+ahead rows n = count (earlier n) rows
+
+-- "in the way": how many of those declare some member of s
+unfoldable pub inWay : List Row → ℕ → ℕ → ℕ
+inWay rows n s = count (λ r. earlier n r && meets (r .declared) s) rows
+
+-- Q3 forbids s to turn n: a live row of lower turn declares some member of it
+abbrev pub blocked : List Row → ℕ → ℕ → Bool
+blocked rows n s = ltb 0 (inWay rows n s)
+
+-- the live requests with the T lowest turns hold the tokens
+abbrev pub token : ℕ → List Row → ℕ → Bool
+token T rows n = ltb (ahead rows n) T
+
+-- a live row without a token, or with a non-empty asked set
+abbrev pub waiting : ℕ → List Row → Row → Bool
+waiting T rows r = live r && (not (token T rows (r .turn .0)) || ltb 0 (r .asked))
+
+-- a live row of turn n
+abbrev pub bears : ℕ → Row → Bool
+bears n r = live r && eqb (r .turn .0) n
+
+-- no two live rows share a turn
+unfoldable pub distinct : List Row → Bool
+distinct rows = all (λ r. not (live r) || eqb (count (bears (r .turn .0)) rows) 1) rows
+
+-- ---- The tests of one row in them
+
+-- a live row of lower turn than n that declares some member of s
+abbrev pub claims : ℕ → ℕ → Row → Bool
+claims n s r = earlier n r && meets (r .declared) s
+
+-- an idle row, or the only live row of its turn
+abbrev pub alone : List Row → Row → Bool
+alone rows r = not (live r) || eqb (count (bears (r .turn .0)) rows) 1
+
+-- what a row was opened with, which is all that the order looks at: its turn and its declared set
+abbrev pub opened : Row → Row
+opened r = record { turn = r .turn; declared = r .declared; held = 0; asked = 0; since = 0 }
+
+-- ---- Laws
+
+-- when one row is set
+module _ (rows : List Row) (j : ℕ) (x : Row) (below : j < length rows) (n : ℕ) where
+  pub ahead-set : ahead (set rows j x) n + bit (earlier n (getD rows j idle)) ≡ ahead rows n + bit (earlier n x)
+  unfolding ahead
+  ahead-set = count-set (earlier n) rows j x idle below
+
+  pub in-way-set :
+      (s : ℕ) → inWay (set rows j x) n s + bit (claims n s (getD rows j idle)) ≡ inWay rows n s + bit (claims n s x)
+  unfolding inWay
+  in-way-set s = count-set (claims n s) rows j x idle below
+
+-- when every row keeps what it was opened with
+module _ (f : Row → Row) (keeps : (r : Row) → opened (f r) ≡ opened r) (rows : List Row) where
+  -- so many pass any test that looks at no more
+  pub count-kept : (g : Row → Bool) → ((r : Row) → g (opened r) ≡ g r) → count g (map f rows) ≡ count g rows
+  count-kept g by =
+      count-map g f rows ∙ ap (λ (h : Row → Bool). count h rows) (fun-ext (λ r. sym (by (f r)) ∙ ap g (keeps r) ∙ by r))
+
+  pub ahead-map : (n : ℕ) → ahead (map f rows) n ≡ ahead rows n
+  unfolding ahead
+  ahead-map n = count-kept (earlier n) (λ r. refl)
+
+  pub in-way-map : (n s : ℕ) → inWay (map f rows) n s ≡ inWay rows n s
+  unfolding inWay
+  in-way-map n s = count-kept (claims n s) (λ r. refl)
+
+  bearers-map : (n : ℕ) → count (bears n) (map f rows) ≡ count (bears n) rows
+  bearers-map n = count-kept (bears n) (λ r. refl)
+
+  pub distinct-map : distinct (map f rows) ≡ distinct rows
+  unfolding distinct
+  distinct-map =
+      all-map (alone (map f rows)) f rows
+      ∙ (λ i. all (λ r. not (live (keeps r i)) || eqb (bearers-map (keeps r i .turn .0) i) 1) rows)
