@@ -26,7 +26,7 @@ unfolding sound all
 last-in-range cs t x n up is e =
     let ok : sound t ≡ true = not-false (sound t) (sym is ∙ clear 0 3 cs up (acceptance-tells {B = ℕ} cs x n (sym e) .0)) in
     let numbers : (holds (ranges (t .tokens) (t .resources) (t .limit)) && holds (counters (t .time) (t .last .0))) ≡ true =
-        and-left _ (distinct (t .rows)) (and-left _ (all (soundRow t) (t .rows)) ok) in
+    and-left _ (distinct (t .rows)) (and-left _ (all (soundRow t) (t .rows)) ok) in
     let both = and-right (holds (ranges (t .tokens) (t .resources) (t .limit))) (holds (counters (t .time) (t .last .0))) numbers in
     let last = and-left (leb (t .last .0) (2 ^ 63 - 1)) true (and-right (leb (t .time) (2 ^ 63 - 1)) _ both) in
     omega (arith, leb-true (t .last .0) (2 ^ 63 - 1) last)

@@ -27,12 +27,12 @@ use event::Event;
 use event::Moment;
 use event::Refusal;
 use event::Tick;
-use rows::idle;
-use rows::live;
-use rows::survey;
 use rows::JOBS;
 use rows::Row;
 use rows::Turn;
+use rows::idle;
+use rows::live;
+use rows::survey;
 
 // The refusal, and the table as it was.
 fn refused(t: Table, refusal: Refusal) -> Next

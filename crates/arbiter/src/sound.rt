@@ -9,15 +9,15 @@ use crate::table::Table;
 use laws::sets::below;
 use laws::sets::inside;
 use laws::sets::meets;
-use rows::earlier;
-use rows::live;
-use rows::token;
-use rows::waiting;
 use rows::JOBS;
 use rows::Row;
 use rows::Standing;
 use rows::Survey;
 use rows::Turn;
+use rows::earlier;
+use rows::live;
+use rows::token;
+use rows::waiting;
 
 // The last true time and the last turn, 2^63 - 1.
 pub const LAST: u64 = 9_223_372_036_854_775_807;
@@ -73,7 +73,10 @@ fn own_sound(b: Bounds, r: Row) -> bool
     let last = b.last;
     let turn = r.turn;
     let apart = both(inside(r.asked, r.declared), !meets(r.held, r.asked));
-    let within = both(below(r.declared, b.resources), both(inside(r.held, r.declared), apart));
+    let within = both(
+        below(r.declared, b.resources),
+        both(inside(r.held, r.declared), apart),
+    );
     both(!earlier(last, turn), both(0 < r.declared, within))
 }
 
@@ -82,10 +85,16 @@ fn claim_sound(b: Bounds, r: Row, s: Standing) -> bool
     ensures { λ x. ⌜ x ≡ holds (claimConditions (b .tokens) (b .time) r (s .ahead) (meets (s .claims))) ⌝ }
 {
     let has = token(s, b.tokens);
-    let since = both(r.since <= b.time, either(waiting(r, s, b.tokens), r.since == 0));
+    let since = both(
+        r.since <= b.time,
+        either(waiting(r, s, b.tokens), r.since == 0),
+    );
     let asks = both(either(r.asked == 0, meets(s.claims, r.asked)), since);
     let free = both(!meets(s.claims, r.held), asks);
-    both(either(has, r.held == 0), both(either(has, r.asked == 0), free))
+    both(
+        either(has, r.held == 0),
+        both(either(has, r.asked == 0), free),
+    )
 }
 
 // Whether a row is sound, `s` being what is known of its turn.
@@ -130,6 +139,9 @@ pub fn is_sound(t: Table, known: Survey) -> bool
     ensures { λ x. ⌜ x ≡ sound t ⌝ }
 {
     let last = t.last;
-    let numbers = both(in_range(t.tokens, t.resources, t.limit), counters_sound(t.time, last));
+    let numbers = both(
+        in_range(t.tokens, t.resources, t.limit),
+        counters_sound(t.time, last),
+    );
     both(both(numbers, known.distinct), rows_sound(t, known))
 }

@@ -11,20 +11,20 @@ ghost use Rattle.rows.specs.Order.{jobs};
 ghost use Rattle.rows.specs.Stand.{Surveyed};
 ghost use Rattle.arbiter.specs.Meaning.{timeAt};
 ghost use Rattle.arbiter.specs.Refusals.{actCases, actorCases, askCases, cases, entryCases, openCases, releaseCases, setCases, tickCases, turnCases};
-use crate::sound::is_sound;
 use crate::sound::LAST;
+use crate::sound::is_sound;
 use crate::table::Table;
 use event::Moment;
 use event::Refusal;
 use event::Tick;
 use laws::sets;
-use rows::earlier;
-use rows::live;
-use rows::token;
 use rows::JOBS;
 use rows::Row;
 use rows::Survey;
 use rows::Turn;
+use rows::earlier;
+use rows::live;
+use rows::token;
 
 // 3, 5, 6: the table and the tick; else the next true time.
 pub fn clock_verdict(t: Table, known: Survey, tick: Tick) -> Moment

@@ -1,70 +1,50 @@
+-- The tests are the conditions, joined in their order.
 use mathlib.Core.Bool.{and-true}
 use Rattle.laws.specs.Bools.{not-ltb}
 use Rattle.laws.specs.Lists.{all}
 use borrow.Author.Needs.{needs}
 use Rattle.arbiter.proofs.sound.claim_sound.Statement.{statement}
 use Rattle.arbiter.proofs.sound.claim_sound.Tie as tie
-use Rattle.arbiter.proofs.sound.claim_sound.Reads as reads
-use Rattle.arbiter.proofs.sound.claim_sound.Lts as lts
-use Rattle.arbiter.proofs.sound.both.Reads as both-reads
-use Rattle.arbiter.proofs.sound.either.Reads as either-reads
-use Rattle.laws.proofs.sets.meets.Reads as meets-reads
-use Rattle.rows.proofs.token.Reads as token-reads
-use Rattle.rows.proofs.waiting.Reads as waiting-reads
 
--- src/sound.rt:84:9
 token-requires : tie.Need-token-requires
 token-requires c κs = search needs
 
--- src/sound.rt:85:48
 waiting-requires : tie.Need-waiting-requires
 waiting-requires c κs = search needs
 
--- src/sound.rt:85:41
 either-requires : tie.Need-either-requires
 either-requires c κs = search needs
 
--- src/sound.rt:85:9
 both-requires : tie.Need-both-requires
 both-requires c κs = search needs
 
--- src/sound.rt:86:42
 meets-requires : tie.Need-meets-requires
 meets-requires c κs = search needs
 
--- src/sound.rt:86:21
 either-requires-2 : tie.Need-either-requires-2
 either-requires-2 c κs = search needs
 
--- src/sound.rt:86:9
 both-requires-2 : tie.Need-both-requires-2
 both-requires-2 c κs = search needs
 
--- src/sound.rt:87:22
 meets-requires-2 : tie.Need-meets-requires-2
 meets-requires-2 c κs = search needs
 
--- src/sound.rt:87:9
 both-requires-3 : tie.Need-both-requires-3
 both-requires-3 c κs = search needs
 
--- src/sound.rt:88:10
 either-requires-3 : tie.Need-either-requires-3
 either-requires-3 c κs = search needs
 
--- src/sound.rt:88:41
 either-requires-4 : tie.Need-either-requires-4
 either-requires-4 c κs = search needs
 
--- src/sound.rt:88:36
 both-requires-4 : tie.Need-both-requires-4
 both-requires-4 c κs = search needs
 
--- src/sound.rt:88:5
 both-requires-5 : tie.Need-both-requires-5
 both-requires-5 c κs = search needs
 
--- src/sound.rt:81:1
 returns : tie.Need-returns
 unfolding all
 returns c = simp and-true (cc)

@@ -1,26 +1,20 @@
+-- The tests are the conditions, joined in their order.
 use mathlib.Core.Bool.{and-true}
 use Rattle.laws.specs.Bools.{not-ltb}
 use Rattle.laws.specs.Lists.{all}
 use borrow.Author.Needs.{needs}
 use Rattle.arbiter.proofs.sound.idle_sound.Statement.{statement}
 use Rattle.arbiter.proofs.sound.idle_sound.Tie as tie
-use Rattle.arbiter.proofs.sound.idle_sound.Reads as reads
-use Rattle.arbiter.proofs.sound.idle_sound.Lts as lts
-use Rattle.arbiter.proofs.sound.both.Reads as both-reads
 
--- src/sound.rt:65:9
 both-requires : tie.Need-both-requires
 both-requires c κs = search needs
 
--- src/sound.rt:66:27
 both-requires-2 : tie.Need-both-requires-2
 both-requires-2 c κs = search needs
 
--- src/sound.rt:66:5
 both-requires-3 : tie.Need-both-requires-3
 both-requires-3 c κs = search needs
 
--- src/sound.rt:62:1
 returns : tie.Need-returns
 unfolding all
 returns c = simp and-true (cc)

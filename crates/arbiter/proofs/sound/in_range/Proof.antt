@@ -1,34 +1,26 @@
+-- The tests are the conditions, joined in their order.
 use mathlib.Core.Bool.{and-true}
 use Rattle.laws.specs.Bools.{not-ltb}
 use Rattle.laws.specs.Lists.{all}
 use borrow.Author.Needs.{needs}
 use Rattle.arbiter.proofs.sound.in_range.Statement.{statement}
 use Rattle.arbiter.proofs.sound.in_range.Tie as tie
-use Rattle.arbiter.proofs.sound.in_range.Reads as reads
-use Rattle.arbiter.proofs.sound.in_range.Lts as lts
-use Rattle.arbiter.proofs.sound.both.Reads as both-reads
 
--- src/sound.rt:49:9
 both-requires : tie.Need-both-requires
 both-requires c κs = search needs
 
--- src/sound.rt:50:9
 both-requires-2 : tie.Need-both-requires-2
 both-requires-2 c κs = search needs
 
--- src/sound.rt:51:21
 both-requires-3 : tie.Need-both-requires-3
 both-requires-3 c κs = search needs
 
--- src/sound.rt:51:13
 both-requires-4 : tie.Need-both-requires-4
 both-requires-4 c κs = search needs
 
--- src/sound.rt:51:5
 both-requires-5 : tie.Need-both-requires-5
 both-requires-5 c κs = search needs
 
--- src/sound.rt:46:1
 returns : tie.Need-returns
 unfolding all
 returns c = simp and-true (cc)

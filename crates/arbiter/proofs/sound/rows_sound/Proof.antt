@@ -1,3 +1,4 @@
+-- The loop keeps: all rows are sound exactly if those left are. What is known of a turn serves in the place of the rows.
 use Rattle.arbiter.proofs.Arrays.{arrays}
 use Prim.Native.Nat.{ℕ, _+_, _-_, _<_, _≤_}
 use mathlib.Core.Bool.{Bool, _&&_}
@@ -17,9 +18,6 @@ use Rattle.arbiter.specs.declared.sound.Bounds.{Bounds}
 use borrow.Author.Needs.{needs}
 use Rattle.arbiter.proofs.sound.rows_sound.Statement.{statement}
 use Rattle.arbiter.proofs.sound.rows_sound.Tie as tie
-use Rattle.arbiter.proofs.sound.rows_sound.Reads as reads
-use Rattle.arbiter.proofs.sound.rows_sound.Lts as lts
-use Rattle.arbiter.proofs.sound.row_sound.Reads as row-sound-reads
 
 -- a row is sound among these rows, against these bounds
 abbrev soundIn : List Row → Bounds → Row → Bool
@@ -54,50 +52,39 @@ row-is c =
     let i = c .before .before .before .before .loop .i in
     let within : i < length (t .rows) = omega (arith, c .before .before .before .before .loop .inv .1) in
     let same : c .row-sound .result ≡ soundRow t (getD (t .rows) i idle) =
-        c .row-sound .ensures ∙ known-serves (t .rows) _ (getD (t .rows) i idle) _ (a .pre .each i (omega arith)) in
+    c .row-sound .ensures ∙ known-serves (t .rows) _ (getD (t .rows) i idle) _ (a .pre .each i (omega arith)) in
     rw same (all-drop (soundRow t) (t .rows) i idle within)
 
--- src/sound.rt:117:5
 loop-holds : tie.Need-loop-holds Inv-loop μ-loop
 loop-holds c = (omega arith, search arrays, refl)
 
--- src/sound.rt:118:17
 mul-r : tie.Need-mul-r Inv-loop μ-loop
 mul-r c = search needs
 
--- src/sound.rt:118:17
 array-copy-out-r : tie.Need-array-copy-out-r Inv-loop μ-loop
 array-copy-out-r c = search needs
 
--- src/sound.rt:119:17
 mul-s : tie.Need-mul-s Inv-loop μ-loop
 mul-s c = search needs
 
--- src/sound.rt:119:17
 array-copy-out-s : tie.Need-array-copy-out-s Inv-loop μ-loop
 array-copy-out-s c = search needs
 
--- src/sound.rt:120:13
 row-sound-requires : tie.Need-row-sound-requires Inv-loop μ-loop
 row-sound-requires c κs = search needs
 
--- src/sound.rt:121:13
 returns : tie.Need-returns Inv-loop μ-loop
 returns c = sym (sym (c .before .before .before .before .before .loop .inv .2) ∙ row-is (c .before) ∙ rw (not-true (c .before .row-sound .result) (c .if1 .taken)))
 
--- src/sound.rt:123:9
 add-i : tie.Need-add-i Inv-loop μ-loop
 add-i c = search needs
 
--- src/sound.rt:117:5
 loop-less : tie.Need-loop-less Inv-loop μ-loop
 loop-less c = omega arith
 
--- src/sound.rt:117:5
 loop-again : tie.Need-loop-again Inv-loop μ-loop
 loop-again c = (omega arith, c .before .before .before .before .before .loop .inv .1, sym (row-is (c .before) ∙ rw (not-false (c .before .row-sound .result) (c .if1 .left))) ∙ c .before .before .before .before .before .loop .inv .2)
 
--- src/sound.rt:103:1
 returns-2 : tie.Need-returns-2 Inv-loop μ-loop
 unfolding all
 returns-2 c = rw (drop-of-length-le (c .before .before .before .before .before .args .t .rows) {i = c .before .loop .i} (omega (arith, c .before .loop .inv .1))) at (c .before .loop .inv .2)

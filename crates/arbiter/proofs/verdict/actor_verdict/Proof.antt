@@ -1,3 +1,4 @@
+-- The tests are the cases, in their order; the token is read off what is known of the turn.
 use Prim.Native.Nat.{ℕ}
 use mathlib.Core.Bool.{not}
 use mathlib.Core.Path.{_≡_, sym, ap, _∙_}
@@ -9,10 +10,6 @@ use Rattle.rows.specs.Order.{token}
 use borrow.Author.Needs.{needs}
 use Rattle.arbiter.proofs.verdict.actor_verdict.Statement.{statement}
 use Rattle.arbiter.proofs.verdict.actor_verdict.Tie as tie
-use Rattle.arbiter.proofs.verdict.actor_verdict.Reads as reads
-use Rattle.arbiter.proofs.verdict.actor_verdict.Lts as lts
-use Rattle.rows.proofs.live.Reads as live-reads
-use Rattle.rows.proofs.token.Reads as token-reads
 
 -- whether the job's turn holds a token, from what is known of it
 has-token :
@@ -23,43 +20,33 @@ has-token c =
     let a = c .before .before .before .before .before in
     c .token .ensures ∙ ap (λ (n : ℕ). ltb n (a .args .t1 .tokens)) (a .pre .0 .each (a .args .k) (a .pre .1) .before)
 
--- src/verdict.rt:65:15
 mul-row : tie.Need-mul-row
 mul-row c = search needs
 
--- src/verdict.rt:65:15
 element-copy-out-row : tie.Need-element-copy-out-row
 element-copy-out-row c = search needs
 
--- src/verdict.rt:66:20
 mul-standing : tie.Need-mul-standing
 mul-standing c = search needs
 
--- src/verdict.rt:66:20
 element-copy-out-standing : tie.Need-element-copy-out-standing
 element-copy-out-standing c = search needs
 
--- src/verdict.rt:67:9
 live-requires : tie.Need-live-requires
 live-requires c κs = search needs
 
--- src/verdict.rt:68:9
 returns : tie.Need-returns
 returns c = outcome-is _ (this (ap not (sym (c .before .live .ensures)) ∙ c .if1 .taken))
 
--- src/verdict.rt:70:9
 token-requires : tie.Need-token-requires
 token-requires c κs = search needs
 
--- src/verdict.rt:71:9
 returns-2 : tie.Need-returns-2
 returns-2 c = outcome-is _ (past (ap not (sym (c .before .before .before .live .ensures)) ∙ c .before .before .if1 .left) (this (ap not (sym (has-token (c .before))) ∙ c .if2 .taken)))
 
--- src/verdict.rt:74:9
 returns-3 : tie.Need-returns-3
 returns-3 c = outcome-is _ (past (ap not (sym (c .before .before .before .before .before .live .ensures)) ∙ c .before .before .before .before .if1 .left) (past (ap not (sym (has-token (c .before .before .before))) ∙ c .before .before .if2 .left) (this (lt-ltb _ _ (c .if3 .taken)))))
 
--- src/verdict.rt:60:1
 returns-4 : tie.Need-returns-4
 returns-4 c = outcome-is _ (past (ap not (sym (c .before .before .before .before .before .live .ensures)) ∙ c .before .before .before .before .if1 .left) (past (ap not (sym (has-token (c .before .before .before))) ∙ c .before .before .if2 .left) (past (le-ltb _ _ (c .if3 .left)) none)))
 

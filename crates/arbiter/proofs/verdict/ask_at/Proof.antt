@@ -1,3 +1,4 @@
+-- The cases of the set, then those of its members.
 use mathlib.Core.Path.{refl, sym, ap, _∙_}
 use Rattle.event.specs.Clock.{momentOf}
 use Rattle.laws.specs.Cases.{ascends, outcome-back, outcome-front}
@@ -26,14 +27,14 @@ ask-set-verdict-requires : tie.Need-ask-set-verdict-requires
 ask-set-verdict-requires c κs = search needs
 
 returns : tie.Need-returns
-returns c = 
+returns c =
     let a = c .before .before .before .before .before .args in
     outcome-front _ (setCases (a .t1 .resources) (a .s)) (askCases (rowOf (a .t1 .rows) (a .k)) (a .s)) _
     (sym (ap momentOf (c .before .verdict .given .1)) ∙ c .before .before .before .set-verdict .ensures)
 
 returns-2 : tie.Need-returns-2
 unfolding ascends
-returns-2 c = 
+returns-2 c =
     let a = c .before .before .before .before .before .before .args in
     outcome-back (setCases (a .t1 .resources) (a .s)) (askCases (rowOf (a .t1 .rows) (a .k)) (a .s)) _ _ _ refl
     (sym (ap momentOf (c .before .before .verdict2 .given .1)) ∙ c .before .before .before .before .set-verdict .ensures)

@@ -1,31 +1,23 @@
+-- The tests are the cases, in their order.
 use mathlib.Core.Bool.{not}
 use mathlib.Core.Path.{sym, ap, _∙_}
 use Rattle.laws.specs.Cases.{none, outcome-is, past, this}
 use borrow.Author.Needs.{needs}
 use Rattle.arbiter.proofs.verdict.ask_set_verdict.Statement.{statement}
 use Rattle.arbiter.proofs.verdict.ask_set_verdict.Tie as tie
-use Rattle.arbiter.proofs.verdict.ask_set_verdict.Reads as reads
-use Rattle.arbiter.proofs.verdict.ask_set_verdict.Lts as lts
-use Rattle.laws.proofs.sets.inside.Reads as inside-reads
-use Rattle.laws.proofs.sets.meets.Reads as meets-reads
 
--- src/verdict.rt:111:9
 inside-requires : tie.Need-inside-requires
 inside-requires c κs = search needs
 
--- src/verdict.rt:112:9
 returns : tie.Need-returns
 returns c = outcome-is _ (this (ap not (sym (c .before .inside .ensures)) ∙ c .if1 .taken))
 
--- src/verdict.rt:114:8
 meets-requires : tie.Need-meets-requires
 meets-requires c κs = search needs
 
--- src/verdict.rt:115:9
 returns-2 : tie.Need-returns-2
 returns-2 c = outcome-is _ (past (ap not (sym (c .before .before .before .inside .ensures)) ∙ c .before .before .if1 .left) (this (sym (c .before .meets .ensures) ∙ c .if2 .taken)))
 
--- src/verdict.rt:108:1
 returns-3 : tie.Need-returns-3
 returns-3 c = outcome-is _ (past (ap not (sym (c .before .before .before .inside .ensures)) ∙ c .before .before .if1 .left) (past (sym (c .before .meets .ensures) ∙ c .if2 .left) none))
 

@@ -1,3 +1,4 @@
+-- The first test is case 3; what passes it is judged by the clock.
 use mathlib.Core.Bool.{not}
 use mathlib.Core.Path.{sym, ap, _∙_}
 use Rattle.event.specs.Clock.{forward}
@@ -5,24 +6,16 @@ use Rattle.laws.specs.Cases.{outcome-is, outcome-past, this}
 use borrow.Author.Needs.{needs}
 use Rattle.arbiter.proofs.verdict.clock_verdict.Statement.{statement}
 use Rattle.arbiter.proofs.verdict.clock_verdict.Tie as tie
-use Rattle.arbiter.proofs.verdict.clock_verdict.Reads as reads
-use Rattle.arbiter.proofs.verdict.clock_verdict.Lts as lts
-use Rattle.arbiter.proofs.sound.is_sound.Reads as is-sound-reads
-use Rattle.event.proofs.forward.Reads as forward-reads
 
--- src/verdict.rt:39:9
 is-sound-requires : tie.Need-is-sound-requires
 is-sound-requires c κs = search needs
 
--- src/verdict.rt:40:9
 returns : tie.Need-returns
 returns c = outcome-is _ (this (ap not (sym (c .before .is-sound .ensures)) ∙ c .if1 .taken))
 
--- src/verdict.rt:42:5
 forward-requires : tie.Need-forward-requires
 forward-requires c κs = search needs
 
--- src/verdict.rt:35:1
 returns-2 : tie.Need-returns-2
 unfolding forward
 returns-2 c = c .forward .ensures ∙ outcome-past _ _ _ _ (ap not (sym (c .before .before .is-sound .ensures)) ∙ c .before .if1 .left)

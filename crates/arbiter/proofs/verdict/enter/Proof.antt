@@ -1,3 +1,4 @@
+-- The tests are cases 3 and 4; what passes them is judged by the clock.
 use mathlib.Core.Bool.{not}
 use mathlib.Core.Path.{sym, ap, _∙_}
 use borrow.Author.Tests.{le-leb, lt-leb}
@@ -6,32 +7,22 @@ use Rattle.laws.specs.Cases.{outcome-is, outcome-past, past, this}
 use borrow.Author.Needs.{needs}
 use Rattle.arbiter.proofs.verdict.enter.Statement.{statement}
 use Rattle.arbiter.proofs.verdict.enter.Tie as tie
-use Rattle.arbiter.proofs.verdict.enter.Reads as reads
-use Rattle.arbiter.proofs.verdict.enter.Lts as lts
-use Rattle.arbiter.proofs.sound.is_sound.Reads as is-sound-reads
-use Rattle.event.proofs.forward.Reads as forward-reads
 
--- src/verdict.rt:50:9
 is-sound-requires : tie.Need-is-sound-requires
 is-sound-requires c κs = search needs
 
--- src/verdict.rt:51:9
 returns : tie.Need-returns
 returns c = outcome-is _ (this (ap not (sym (c .before .is-sound .ensures)) ∙ c .if1 .taken))
 
--- src/verdict.rt:53:8
 cast-if2 : tie.Need-cast-if2
 cast-if2 c = search needs
 
--- src/verdict.rt:54:9
 returns-2 : tie.Need-returns-2
 returns-2 c = outcome-is _ (past (ap not (sym (c .before .before .is-sound .ensures)) ∙ c .before .if1 .left) (this (le-leb _ _ (c .if2 .taken))))
 
--- src/verdict.rt:56:5
 forward-requires : tie.Need-forward-requires
 forward-requires c κs = search needs
 
--- src/verdict.rt:46:1
 returns-3 : tie.Need-returns-3
 unfolding forward
 returns-3 c = c .forward .ensures ∙ outcome-past _ _ _ _ (lt-leb _ _ (c .before .if2 .left)) ∙ outcome-past _ _ _ _ (ap not (sym (c .before .before .before .is-sound .ensures)) ∙ c .before .before .if1 .left)

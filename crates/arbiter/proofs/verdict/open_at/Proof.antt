@@ -1,3 +1,4 @@
+-- Case 7, then the cases of the set, then that of the turn.
 use mathlib.Core.Path.{refl, sym, ap, _∙_}
 use Rattle.event.specs.Clock.{momentOf}
 use Rattle.laws.specs.Cases.{ascends, outcome-back, outcome-front, outcome-is, outcome-past, this}
@@ -31,7 +32,7 @@ turn-verdict-requires : tie.Need-turn-verdict-requires
 turn-verdict-requires c κs = search needs
 
 returns-2 : tie.Need-returns-2
-returns-2 c = 
+returns-2 c =
     let a = c .before .before .before .before .before .before .before .args in
     outcome-front _ (setCases (a .t1 .resources) (a .s)) (turnCases (a .t1 .last .0)) _
     (sym (ap momentOf (c .before .verdict .given .1)) ∙ c .before .before .before .set-verdict .ensures)
@@ -39,7 +40,7 @@ returns-2 c =
 
 returns-3 : tie.Need-returns-3
 unfolding ascends
-returns-3 c = 
+returns-3 c =
     let a = c .before .before .before .before .before .before .before .before .before .args in
     outcome-back (setCases (a .t1 .resources) (a .s)) (turnCases (a .t1 .last .0)) _ _ _ refl
     (sym (ap momentOf (c .before .before .before .verdict2 .given .1)) ∙ c .before .before .before .before .before .set-verdict .ensures)

@@ -1,22 +1,17 @@
+-- The test is the case.
 use mathlib.Core.Bool.{not}
 use mathlib.Core.Path.{sym, ap, _∙_}
 use Rattle.laws.specs.Cases.{none, outcome-is, past, this}
 use borrow.Author.Needs.{needs}
 use Rattle.arbiter.proofs.verdict.release_set_verdict.Statement.{statement}
 use Rattle.arbiter.proofs.verdict.release_set_verdict.Tie as tie
-use Rattle.arbiter.proofs.verdict.release_set_verdict.Reads as reads
-use Rattle.arbiter.proofs.verdict.release_set_verdict.Lts as lts
-use Rattle.laws.proofs.sets.inside.Reads as inside-reads
 
--- src/verdict.rt:124:9
 inside-requires : tie.Need-inside-requires
 inside-requires c κs = search needs
 
--- src/verdict.rt:125:9
 returns : tie.Need-returns
 returns c = outcome-is _ (this (ap not (sym (c .before .inside .ensures)) ∙ c .if1 .taken))
 
--- src/verdict.rt:121:1
 returns-2 : tie.Need-returns-2
 returns-2 c = outcome-is _ (past (ap not (sym (c .before .inside .ensures)) ∙ c .if1 .left) none)
 

@@ -1,3 +1,4 @@
+-- The cases of a job that acts, then those of the release.
 use mathlib.Core.Path.{refl, sym, ap, _∙_}
 use Rattle.event.specs.Clock.{momentOf}
 use mathlib.Core.List.{_++_}
@@ -20,20 +21,20 @@ enum-known-act-2 c = search needs
 
 release-at-requires : tie.Need-release-at-requires
 unfolding ascends case
-release-at-requires c κs = 
+release-at-requires c κs =
     let a = c .before .before .before .before .args in
     let e = sym (ap momentOf (c .before .act2 .given .1)) ∙ c .before .before .before .act-verdict .ensures in
     has-row (actCases (a .t) (a .job) (a .tick .0)) (a .job) _ _ refl refl e
 
 returns : tie.Need-returns
-returns c = 
+returns c =
     let a = c .before .before .before .before .args in
     outcome-front _ (actCases (a .t) (a .job) (a .tick .0)) (setCases (a .t .resources) (a .s) ++ releaseCases (rowOf (a .t .rows) (a .job)) (a .s)) _
     (sym (ap momentOf (c .before .act .given .1)) ∙ c .before .before .before .act-verdict .ensures)
 
 returns-2 : tie.Need-returns-2
 unfolding ascends
-returns-2 c = 
+returns-2 c =
     let a = c .before .before .before .before .before .args in
     outcome-back (actCases (a .t) (a .job) (a .tick .0)) (setCases (a .t .resources) (a .s) ++ releaseCases (rowOf (a .t .rows) (a .job)) (a .s)) _ _ _ refl
     (sym (ap momentOf (c .before .before .act2 .given .1)) ∙ c .before .before .before .before .act-verdict .ensures)

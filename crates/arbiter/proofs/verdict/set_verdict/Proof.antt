@@ -1,3 +1,4 @@
+-- The tests are the cases, in their order.
 use mathlib.Core.Bool.{not}
 use mathlib.Core.Path.{sym, ap, _∙_}
 use borrow.Author.Tests.{eq-eqb, ne-eqb}
@@ -5,23 +6,16 @@ use Rattle.laws.specs.Cases.{outcome-is, none, past, this}
 use borrow.Author.Needs.{needs}
 use Rattle.arbiter.proofs.verdict.set_verdict.Statement.{statement}
 use Rattle.arbiter.proofs.verdict.set_verdict.Tie as tie
-use Rattle.arbiter.proofs.verdict.set_verdict.Reads as reads
-use Rattle.arbiter.proofs.verdict.set_verdict.Lts as lts
-use Rattle.laws.proofs.sets.below.Reads as below-reads
 
--- src/verdict.rt:84:9
 returns : tie.Need-returns
 returns c = outcome-is _ (this (eq-eqb _ _ (c .if1 .taken)))
 
--- src/verdict.rt:86:9
 below-requires : tie.Need-below-requires
 below-requires c κs = search needs
 
--- src/verdict.rt:87:9
 returns-2 : tie.Need-returns-2
 returns-2 c = outcome-is _ (past (ne-eqb _ _ (c .before .before .if1 .left)) (this (ap not (sym (c .before .below .ensures)) ∙ c .if2 .taken)))
 
--- src/verdict.rt:80:1
 returns-3 : tie.Need-returns-3
 returns-3 c = outcome-is _ (past (ne-eqb _ _ (c .before .before .if1 .left)) (past (ap not (sym (c .before .below .ensures)) ∙ c .if2 .left) none))
 

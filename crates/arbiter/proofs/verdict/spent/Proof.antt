@@ -1,3 +1,4 @@
+-- A turn that is neither lower nor higher is equal.
 use Prim.Native.Nat.{ℕ, _-_, _≤_, _^_}
 use mathlib.Core.Bool.{Bool, true, false, not}
 use mathlib.Core.Path.{_≡_, refl, sym, ap, _∙_}
@@ -7,9 +8,6 @@ use lib.Dec.{eqb, ltb}
 use borrow.Author.Needs.{needs}
 use Rattle.arbiter.proofs.verdict.spent.Statement.{statement}
 use Rattle.arbiter.proofs.verdict.spent.Tie as tie
-use Rattle.arbiter.proofs.verdict.spent.Reads as reads
-use Rattle.arbiter.proofs.verdict.spent.Lts as lts
-use Rattle.rows.proofs.earlier.Reads as earlier-reads
 
 -- of a number that is no lower, not to be higher is to be equal
 not-higher : (a b : ℕ) → b ≤ a → not (ltb b a) ≡ eqb a b
@@ -19,19 +17,15 @@ not-higher a b h = go (ltb b a) refl
     go true e = let more = ltb-true b a e in sym (ne-eqb a b (λ q. omega arith))
     go false e = let less = ltb-false b a e in sym (eq-eqb a b (omega arith))
 
--- src/verdict.rt:96:8
 earlier-requires : tie.Need-earlier-requires
 earlier-requires c κs = search needs
 
--- src/verdict.rt:97:9
 returns : tie.Need-returns
 returns c = let less = ltb-true (c .before .before .args .last .0) (2 ^ 63 - 1) (sym (c .before .earlier .ensures) ∙ c .if1 .taken) in sym (ne-eqb (c .before .before .args .last .0) (2 ^ 63 - 1) (λ q. omega (arith, q, less)))
 
--- src/verdict.rt:99:6
 earlier-requires-2 : tie.Need-earlier-requires-2
 earlier-requires-2 c κs = search needs
 
--- src/verdict.rt:93:1
 returns-2 : tie.Need-returns-2
 returns-2 c = ap not (c .earlier2 .ensures) ∙ not-higher (c .before .before .before .args .last .0) (2 ^ 63 - 1) (ltb-false (c .before .before .before .args .last .0) (2 ^ 63 - 1) (sym (c .before .before .earlier .ensures) ∙ c .before .if1 .left))
 

@@ -1,21 +1,16 @@
+-- The test is the case.
 use mathlib.Core.Path.{sym, _∙_}
 use Rattle.laws.specs.Cases.{none, outcome-is, past, this}
 use borrow.Author.Needs.{needs}
 use Rattle.arbiter.proofs.verdict.turn_verdict.Statement.{statement}
 use Rattle.arbiter.proofs.verdict.turn_verdict.Tie as tie
-use Rattle.arbiter.proofs.verdict.turn_verdict.Reads as reads
-use Rattle.arbiter.proofs.verdict.turn_verdict.Lts as lts
-use Rattle.arbiter.proofs.verdict.spent.Reads as spent-reads
 
--- src/verdict.rt:101:8
 spent-requires : tie.Need-spent-requires
 spent-requires c κs = search needs
 
--- src/verdict.rt:102:9
 returns : tie.Need-returns
 returns c = outcome-is _ (this (sym (c .before .spent .ensures) ∙ c .if1 .taken))
 
--- src/verdict.rt:98:1
 returns-2 : tie.Need-returns-2
 returns-2 c = outcome-is _ (past (sym (c .before .spent .ensures) ∙ c .if1 .left) none)
 

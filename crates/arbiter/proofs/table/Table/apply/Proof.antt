@@ -22,7 +22,6 @@ module _ (t : Table) (e : Event) (out : List ℕ) (r : Next) where
   unfolding listed over
   unlisted quiet p = record { answered = p; lists = sym (rw quiet (leaves-same (cases (length out) t e) out)) }
 
-
 enum-known-event : tie.Need-enum-known-event
 enum-known-event c = search needs
 
@@ -55,28 +54,28 @@ complete-requires c κs = search needs
 
 returns : tie.Need-returns
 unfolding answer next
-returns c = 
+returns c =
     let a = c .before .before .before .before .before .args in
     rw (c .before .before .event .given .1) (unlisted (a .self) _ (a .woken .now) _ refl
     (record { says = c .beat .ensures .says; hands = c .beat .ensures .hands }))
 
 returns-2 : tie.Need-returns-2
 unfolding answer next
-returns-2 c = 
+returns-2 c =
     let a = c .before .before .before .before .before .args in
     rw (c .before .before .event2 .given .1) (unlisted (a .self) _ (a .woken .now) _ refl
     (record { says = c .«open» .ensures .says; hands = c .«open» .ensures .hands }))
 
 returns-3 : tie.Need-returns-3
 unfolding answer next
-returns-3 c = 
+returns-3 c =
     let a = c .before .before .before .before .before .args in
     rw (c .before .before .event3 .given .1) (unlisted (a .self) _ (a .woken .now) _ refl
     (record { says = c .ask .ensures .says; hands = c .ask .ensures .hands }))
 
 returns-4 : tie.Need-returns-4
 unfolding answer next
-returns-4 c = 
+returns-4 c =
     let a = c .before .before .before .before .before .args in
     rw (c .before .before .event4 .given .1) (unlisted (a .self) _ (a .woken .now) _ refl
     (record { says = c .release .ensures .says; hands = c .release .ensures .hands }))

@@ -29,13 +29,13 @@ moved-requires : tie.Need-moved-requires
 moved-requires c κs = search needs
 
 returns : tie.Need-returns
-returns c = 
+returns c =
     let a = c .before .before .before .before .before .before .before .args in
     refused-answers jobs (a .self) (Beat (a .tick)) (timeAt (a .self) (a .tick .0)) _ _
     (sym (ap momentOf (c .before .before .verdict .given .1)) ∙ c .before .before .before .before .clock-verdict .ensures) (c .refused .ensures)
 
 returns-2 : tie.Need-returns-2
-returns-2 c = 
+returns-2 c =
     let a = c .before .before .before .before .before .before .before .before .args in
     accepted-answers jobs (a .self) (Beat (a .tick)) (timeAt (a .self) (a .tick .0)) _ _
     (λ (time : ℕ). moved (a .self) time (a .self .last .0) (a .self .rows))

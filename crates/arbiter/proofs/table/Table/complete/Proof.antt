@@ -17,7 +17,7 @@ refused-requires : tie.Need-refused-requires
 refused-requires c κs = search needs
 
 returns : tie.Need-returns
-returns c = 
+returns c =
     let a = c .before .before .before .args in
     refused-answers-into (a .self) (Complete (a .job) (a .tick)) (timeAt (a .self) (a .tick .0)) _ _ _ (outcome-is _ (this (lt-ltb _ _ (c .before .if1 .taken)))) (c .refused .ensures)
 
@@ -38,7 +38,7 @@ enum-known-verdict-2 c = search needs
 
 completed-requires : tie.Need-completed-requires
 unfolding ascends case
-completed-requires c κs = 
+completed-requires c κs =
     let a = c .before .before .before .before .before .before .before .before .before .args in
     let v = sym (ap momentOf (c .before .before .verdict2 .given .1)) ∙ c .before .before .before .before .act-verdict .ensures in (
       c .before .before .before .before .before .survey .ensures,
@@ -46,7 +46,7 @@ completed-requires c κs =
     )
 
 returns-2 : tie.Need-returns-2
-returns-2 c = 
+returns-2 c =
     let a = c .before .before .before .before .before .before .before .before .before .args in
     refused-answers-into (a .self) (Complete (a .job) (a .tick)) (timeAt (a .self) (a .tick .0)) _ _ _
     (sym (ap momentOf (c .before .before .verdict .given .1)) ∙ c .before .before .before .before .act-verdict .ensures ∙ outcome-past _ _ _ _ (le-ltb _ _ (c .before .before .before .before .before .before .before .if1 .left)))
@@ -56,7 +56,7 @@ same-length : tie.Need-same-length
 same-length c = search needs
 
 returns-3 : tie.Need-returns-3
-returns-3 c = 
+returns-3 c =
     let a = c .before .before .before .before .before .before .before .before .before .before .before .before .args in
     accepted-answers-into (a .self) (Complete (a .job) (a .tick)) (timeAt (a .self) (a .tick .0)) _ _ _ _
     (λ (time : ℕ). moved (a .self) time (a .self .last .0) (completedRows (a .self) (a .job)))

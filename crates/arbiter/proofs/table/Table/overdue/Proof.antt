@@ -39,7 +39,7 @@ module _ (t : Table) (tick : ℕ) (before : List ℕ) where
   unfolding overdue overdueList
   accepted-late after n x v p =
       let same : lateAt t x ≡ late t tick =
-          ap (lateAt t) (sym (acceptance-tells {B = ℕ} (overdueCases (length before) t tick) (timeAt t tick) x (sym v) .1)) in
+      ap (lateAt t) (sym (acceptance-tells {B = ℕ} (overdueCases (length before) t tick) (timeAt t tick) x (sym v) .1)) in
       record {
         says =
             ap fine (p .told ∙ ap length same)
@@ -48,7 +48,6 @@ module _ (t : Table) (tick : ℕ) (before : List ℕ) where
             p .left ∙ ap (λ (l : List ℕ). over l before) same
             ∙ sym (acceptance-tells (overdueCases (length before) t tick) (timeAt t tick) x (sym v) .3 before (over (late t tick) before));
       }
-
 
 returns : tie.Need-returns
 returns c = let a = c .before .before .args in refused-late (a .self) (a .tick .0) _ _ (outcome-is _ (this (lt-ltb _ _ (c .if1 .taken))))
@@ -69,7 +68,7 @@ listed-late-requires : tie.Need-listed-late-requires
 listed-late-requires c κs = (c .before .before .before .before .before .survey .ensures, c .before .before .before .before .before .before .before .if1 .left)
 
 returns-2 : tie.Need-returns-2
-returns-2 c = 
+returns-2 c =
     let a = c .before .before .before .before .before .before .before .before .args in
     refused-late (a .self) (a .tick .0) _ _
     (sym (ap momentOf (c .before .verdict .given .1)) ∙ c .before .before .before .clock-verdict .ensures ∙ outcome-past _ _ _ _ (le-ltb _ _ (c .before .before .before .before .before .before .if1 .left)))
@@ -78,7 +77,7 @@ same-length : tie.Need-same-length
 same-length c = search needs
 
 returns-3 : tie.Need-returns-3
-returns-3 c = 
+returns-3 c =
     let a = c .before .before .before .before .before .before .before .before .before .before .before .before .args in
     accepted-late (a .self) (a .tick .0) _ _ _ _
     (sym (ap momentOf (c .before .before .before .before .before .verdict2 .given .1)) ∙ c .before .before .before .before .before .before .before .clock-verdict .ensures ∙ outcome-past _ _ _ _ (le-ltb _ _ (c .before .before .before .before .before .before .before .before .before .before .if1 .left)))

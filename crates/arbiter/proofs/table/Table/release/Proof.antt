@@ -33,19 +33,19 @@ enum-known-verdict-2 c = search needs
 
 released-requires : tie.Need-released-requires
 unfolding ascends case
-released-requires c κs = 
+released-requires c κs =
     let a = c .before .before .before .before .before .before .args in
     let v = sym (ap momentOf (c .before .verdict2 .given .1)) ∙ c .before .before .before .release-verdict .ensures in
     has-row (cases jobs (a .self) (Release (a .job) (a .tick) (a .members))) (a .job) _ _ refl refl v
 
 returns : tie.Need-returns
-returns c = 
+returns c =
     let a = c .before .before .before .before .before .before .before .args in
     refused-answers jobs (a .self) (Release (a .job) (a .tick) (a .members)) (timeAt (a .self) (a .tick .0)) _ _
     (sym (ap momentOf (c .before .before .verdict .given .1)) ∙ c .before .before .before .before .release-verdict .ensures) (c .refused .ensures)
 
 returns-2 : tie.Need-returns-2
-returns-2 c = 
+returns-2 c =
     let a = c .before .before .before .before .before .before .before .args in
     accepted-answers jobs (a .self) (Release (a .job) (a .tick) (a .members)) (timeAt (a .self) (a .tick .0)) _ _ (λ (time : ℕ). moved (a .self) time (a .self .last .0) (set (a .self .rows) (a .job) (releasedRow (rowOf (a .self .rows) (a .job)) (a .members))))
     (sym (ap momentOf (c .before .before .verdict2 .given .1)) ∙ c .before .before .before .before .release-verdict .ensures) refl (c .released .ensures)

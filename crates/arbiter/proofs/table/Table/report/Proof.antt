@@ -36,7 +36,7 @@ live-requires c κs = search needs
 
 returns-3 : tie.Need-returns-3
 unfolding report
-returns-3 c = 
+returns-3 c =
     outcome-is _
     (past (ap not (sym (c .before .before .before .before .before .is-sound .ensures)) ∙ c .before .before .before .before .if1 .left)
     (past (lt-leb _ _ (c .before .before .before .if2 .left)) (this (ap not (sym (c .before .live .ensures)) ∙ c .if3 .taken))))
@@ -46,7 +46,7 @@ reported-requires c κs = (c .before .before .before .before .before .before .su
 
 returns-4 : tie.Need-returns-4
 unfolding report
-returns-4 c = 
+returns-4 c =
     ap fine (c .reported .ensures)
     ∙ outcome-is _
     (past (ap not (sym (c .before .before .before .before .before .before .is-sound .ensures)) ∙ c .before .before .before .before .before .if1 .left)

@@ -22,7 +22,7 @@ refused-requires c κs = search needs
 
 returns : tie.Need-returns
 unfolding startAnswer startTable
-returns c = 
+returns c =
     let out = this (ap not (sym (c .before .before .in-range .ensures)) ∙ c .before .if1 .taken) in
     record {
       says = c .refused .ensures .says ∙ outcome-is _ out;
@@ -38,7 +38,7 @@ cast-t13 c = search needs
 
 returns-2 : tie.Need-returns-2
 unfolding startAnswer startTable
-returns-2 c = 
+returns-2 c =
     let a = c .before .before .before .before .args in
     let ok = past (ap not (sym (c .before .before .in-range .ensures)) ∙ c .before .if1 .left) none in
     record {
@@ -46,14 +46,14 @@ returns-2 c =
       hands =
           ap
           (λ (r : Row).
-              record {
-                tokens = a .tokens;
-                resources = a .resources;
-                limit = a .limit;
-                time = a .tick .0;
-                last = record { 0 = 0 };
-                rows = replicate jobs r;
-              })
+          record {
+            tokens = a .tokens;
+            resources = a .resources;
+            limit = a .limit;
+            time = a .tick .0;
+            last = record { 0 = 0 };
+            rows = replicate jobs r;
+          })
           (c .before .before .before .idle .ensures)
           ∙ leaves-is _ _ ok;
     }
