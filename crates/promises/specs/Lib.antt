@@ -21,3 +21,4 @@ pub mod KeptWoken
 pub mod Sound
 pub mod SoundFacts
 pub mod SoundTokens
+pub mod Worked

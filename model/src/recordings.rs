@@ -1,0 +1,159 @@
+//! Makes recordings.
+
+use crate::drive::{self, Style};
+use crate::random::Random;
+use crate::record::{self, Record, LENGTH};
+use crate::replay::Replay;
+use crate::table::Table;
+
+/// Records in 65,536 bytes, rounded down.
+const BLOCK: u64 = 4681;
+
+const CALM: &[u64] = &[0, 0, 0, 1, 1, 2, 3, 40, 1000];
+
+/// Around half the counter, where a clock turns from forward to back; the last
+/// of these is one tick back.
+const HALVES: &[u64] = &[
+    0,
+    1,
+    5,
+    (1 << 31) - 2,
+    (1 << 31) - 1,
+    1 << 31,
+    (1 << 31) + 1,
+    (1 << 32) - 1,
+];
+
+struct Plan {
+    tokens: &'static [u8],
+    resources: &'static [u8],
+    style: Style,
+    /// One record in so many is damaged; 0 for none.
+    damage: u64,
+}
+
+const fn plan(jobs: u64, steps: &'static [u64], wild: u64) -> Plan {
+    Plan {
+        tokens: &[1, 2, 3, 4, 8],
+        resources: &[1, 2, 4, 8, 64],
+        style: Style { jobs, steps, wild },
+        damage: 0,
+    }
+}
+
+/// Every kind with its plan.
+const PLANS: [(&str, Plan); 9] = [
+    ("lively", plan(12, CALM, 40)),
+    (
+        "damaged",
+        Plan {
+            damage: 4,
+            ..plan(12, CALM, 6)
+        },
+    ),
+    ("ticks", plan(12, HALVES, 12)),
+    ("crowd", plan(64, CALM, 12)),
+    ("few", plan(2, CALM, 4)),
+    (
+        "corner",
+        Plan {
+            tokens: &[1, 64],
+            resources: &[1, 64],
+            ..plan(64, CALM, 12)
+        },
+    ),
+    ("cut", plan(12, CALM, 12)),
+    ("block", plan(12, CALM, 12)),
+    ("first", plan(12, CALM, 12)),
+];
+
+pub fn kinds() -> impl Iterator<Item = &'static str> {
+    PLANS.iter().map(|(kind, _)| *kind)
+}
+
+/// A recording of `count` records. Nothing if there is no such kind.
+///
+/// The seed steps through the edges, so that a row of seeds meets them all: a `cut`
+/// one has seed modulo 14 bytes more; a `block` one has `count` times 4681 records,
+/// less one to more one by seed modulo 3, and (seed / 3) modulo 14 bytes more; a
+/// `first` one has one of six bad beginnings by seed modulo 6.
+pub fn make(kind: &str, seed: u64, count: u64) -> Option<Vec<u8>> {
+    let (_, plan) = PLANS.iter().find(|(name, _)| *name == kind)?;
+    let mut random = Random::new(seed);
+    let (records, rest) = match kind {
+        "cut" => (count, seed % 14),
+        "block" => ((count * BLOCK + seed % 3).saturating_sub(1), seed / 3 % 14),
+        "damaged" => (count, random.below(14)),
+        _ => (count, 0),
+    };
+    // One record more than asked for, to take the rest from.
+    let mut bytes = good_start(&mut random, plan, records + 1);
+    bytes.truncate(records as usize * LENGTH + rest as usize);
+    if kind == "first" || (kind == "damaged" && random.one_in(8)) {
+        bytes = spoil_first(&mut random, bytes, seed);
+    }
+    Some(bytes)
+}
+
+/// A recording that begins with an accepted start.
+fn good_start(random: &mut Random, plan: &Plan, count: u64) -> Vec<u8> {
+    let mut replay = Replay::default();
+    let mut bytes = Vec::new();
+    for _ in 0..count {
+        let mut record = match &replay.table {
+            None => start(random, plan),
+            Some(table) => record::write(&drive::event(random, table, &plan.style)),
+        };
+        if replay.table.is_some() && plan.damage > 0 && random.one_in(plan.damage) {
+            damage(random, &mut record);
+        }
+        // Following what is really written keeps later events sensible.
+        replay.step(&record);
+        bytes.extend(record);
+    }
+    bytes
+}
+
+fn start(random: &mut Random, plan: &Plan) -> [u8; LENGTH] {
+    let any = random.number() as u32;
+    record::write(&Record::Start {
+        tokens: random.pick(plan.tokens),
+        resources: random.pick(plan.resources),
+        tick: random.pick(&[0, 1, u32::MAX - 20, u32::MAX, any]),
+        limit: random.pick(&[1, 50, 1000, u32::MAX, any.max(1)]),
+    })
+}
+
+fn damage(random: &mut Random, record: &mut [u8; LENGTH]) {
+    match random.below(5) {
+        0 => flip(record, random.below(8 * LENGTH as u64)),
+        // Among the first 16 bits are kind, job and a gap.
+        1 => flip(record, random.below(16)),
+        2 => record[0] = record[0] % 32 + 32 * random.below(8) as u8,
+        3 => record.fill_with(|| random.number() as u8),
+        _ => *record = start(random, &PLANS[0].1),
+    }
+}
+
+fn flip(record: &mut [u8; LENGTH], bit: u64) {
+    record[bit as usize / 8] ^= 128 >> (bit % 8);
+}
+
+/// Puts a first record with which no replay starts, or hardly any, before good
+/// ones, or ends the recording within it.
+fn spoil_first(random: &mut Random, mut bytes: Vec<u8>, seed: u64) -> Vec<u8> {
+    let mut record = start(random, &PLANS[0].1);
+    match seed % 6 {
+        0 => record = record::write(&drive::event(random, &Table::zero(), &PLANS[0].1.style)),
+        // A limit of 0.
+        1 => record[6..10].fill(0),
+        // A bit in the gaps.
+        2 => flip(&mut record, random.pick(&[15, 80, 111])),
+        3 => record[0] |= 64,
+        4 => record.fill_with(|| random.number() as u8),
+        _ => return record[..(seed / 6 % 14) as usize].to_vec(),
+    }
+    let first = bytes.len().min(LENGTH);
+    bytes.splice(..first, record);
+    bytes
+}

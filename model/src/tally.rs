@@ -1,0 +1,224 @@
+//! Counts what cases and recordings reach, and names what they never do.
+
+use crate::answer::{answer, Answer};
+use crate::case::{Call, Case, CALLS};
+use crate::probe::{next_case, Next};
+use crate::record::{self, Record};
+use crate::refuse;
+use crate::replay::{walk, Said};
+use crate::sound;
+use std::collections::BTreeMap;
+use std::io::{self, Read, Write};
+
+/// How often each thing was met.
+#[derive(Default)]
+struct Tally(BTreeMap<String, u64>);
+
+impl Tally {
+    fn count(&mut self, what: String) {
+        *self.0.entry(what).or_default() += 1;
+    }
+
+    /// Prints the counts of all that was to be met, then what never was and what
+    /// should not have been. True if there is neither.
+    fn print(&self, expected: &[String], mut out: impl Write) -> io::Result<bool> {
+        let mut missing = Vec::new();
+        for what in expected {
+            let count = self.0.get(what).copied().unwrap_or(0);
+            writeln!(out, "{what}: {count}")?;
+            if count == 0 {
+                missing.push(what);
+            }
+        }
+        let strange = self.0.keys().filter(|what| !expected.contains(what));
+        let strange: Vec<&String> = strange.collect();
+        for what in &missing {
+            writeln!(out, "missing {what}")?;
+        }
+        for what in &strange {
+            writeln!(out, "unexpected {what}")?;
+        }
+        let met = expected.len() - missing.len();
+        writeln!(out, "{met} of {} met", expected.len())?;
+        out.flush()?;
+        Ok(missing.is_empty() && strange.is_empty())
+    }
+}
+
+fn amount(count: usize) -> &'static str {
+    match count {
+        0 => "0",
+        1 => "1",
+        _ => "more",
+    }
+}
+
+/// Every answer that is no refusal. A report shows token, waiting and the number
+/// in the way.
+const ANSWERS: [&str; 27] = [
+    "beat done",
+    "open token",
+    "open wait",
+    "ask granted",
+    "ask wait",
+    "release done",
+    "complete woke 0",
+    "complete woke 1",
+    "complete woke more",
+    "report 1 0 0",
+    "report 1 0 1",
+    "report 1 0 more",
+    "report 1 1 1",
+    "report 1 1 more",
+    "report 0 1 0",
+    "report 0 1 1",
+    "report 0 1 more",
+    "overdue 0",
+    "overdue 1",
+    "overdue more",
+    "start done",
+    "write-beat wrote",
+    "write-open wrote",
+    "write-ask wrote",
+    "write-release wrote",
+    "write-complete wrote",
+    "write-start wrote",
+];
+
+fn name(call: Call, answer: &Answer) -> String {
+    match answer {
+        Answer::Woke(count) => format!("{call} woke {}", amount(*count)),
+        Answer::Overdue(count) => format!("{call} {}", amount(*count)),
+        Answer::Report(report) => {
+            let (token, waiting) = (u8::from(report.token), u8::from(report.waiting));
+            format!("{call} {token} {waiting} {}", amount(report.in_the_way))
+        }
+        plain => format!("{call} {plain}"),
+    }
+}
+
+/// Why a call that gives the lower one can't have the higher one apply as well.
+/// All other pairs within the list of one call can be met.
+fn never_together(low: u8, high: u8) -> Option<&'static str> {
+    match (low, high) {
+        (4, 7 | 10 | 14) => Some("a job above 63 has no row to be live, ask or hold"),
+        (8, 10 | 14) => Some("in a sound table idle rows ask and hold nothing"),
+        (9, 10 | 14) => Some("in a sound table nobody asks or holds without a token"),
+        (11, 12..=15) => Some("an empty set has no members"),
+        _ => None,
+    }
+}
+
+/// The pairs of refusals in a call's list, the lower one first.
+fn pairs(call: Call) -> Vec<(u8, u8)> {
+    let listed = refuse::listed(call);
+    let mut pairs = Vec::new();
+    for (place, &low) in listed.iter().enumerate() {
+        pairs.extend(listed[place + 1..].iter().map(|&high| (low, high)));
+    }
+    pairs
+}
+
+fn expected_of_cases() -> Vec<String> {
+    let mut expected: Vec<String> = ANSWERS.map(|what| format!("answer {what}")).into();
+    for call in CALLS {
+        let listed = refuse::listed(call).iter();
+        expected.extend(listed.map(|number| format!("refusal {call} {number}")));
+    }
+    for call in CALLS {
+        let mut pairs = pairs(call);
+        pairs.retain(|&(low, high)| never_together(low, high).is_none());
+        let pairs = pairs.iter();
+        expected.extend(pairs.map(|(low, high)| format!("together {call} {low} {high}")));
+    }
+    expected.extend(sound::clauses().map(|clause| format!("only broken {clause}")));
+    expected
+}
+
+fn count_case(tally: &mut Tally, case: &Case) {
+    let call = case.call;
+    let mut applying = refuse::applying(case);
+    let Some(given) = applying.next() else {
+        tally.count(format!("answer {}", name(call, &answer(case).answer)));
+        return;
+    };
+    tally.count(format!("refusal {call} {given}"));
+    for other in applying {
+        tally.count(format!("together {call} {given} {other}"));
+    }
+    if let (3, [clause]) = (given, sound::broken(&case.table).as_slice()) {
+        tally.count(format!("only broken {clause}"));
+    }
+}
+
+/// Counts a row of cases: answers, refusals, those that apply together with the
+/// one given, and the clauses of soundness that are the only one broken.
+pub fn of_cases(mut input: impl Read, mut out: impl Write) -> io::Result<bool> {
+    let mut tally = Tally::default();
+    while let Next::Case(case) = next_case(&mut input)? {
+        count_case(&mut tally, &case);
+    }
+    for call in CALLS {
+        for (low, high) in pairs(call) {
+            if let Some(reason) = never_together(low, high) {
+                writeln!(out, "never together {call} {low} {high}: {reason}")?;
+            }
+        }
+    }
+    tally.print(&expected_of_cases(), out)
+}
+
+/// Refusals that no recording of a handy length can bring about: its jobs fit 6
+/// bits, the replay lends a long list, its tables are sound, and the end of time
+/// and of turns is too many records away.
+const NOT_IN_REPLAY: [u8; 5] = [2, 3, 4, 6, 16];
+
+fn expected_of_recordings() -> Vec<String> {
+    let answers = [
+        "first ok",
+        "beat ok",
+        "open ok",
+        "open wait",
+        "ask ok",
+        "ask wait",
+        "release ok",
+        "complete ok 0",
+        "complete ok 1",
+        "complete ok more",
+        "start no 20",
+    ];
+    let mut expected: Vec<String> = answers.map(String::from).into();
+    expected.extend([1, 17, 18, 19, 20].map(|number| format!("first no {number}")));
+    expected.extend([17, 18, 19].map(|number| format!("unreadable no {number}")));
+    for call in &CALLS[..5] {
+        let listed = refuse::listed(*call).iter();
+        let met = listed.filter(|number| !NOT_IN_REPLAY.contains(number));
+        expected.extend(met.map(|number| format!("{call} no {number}")));
+    }
+    expected
+}
+
+fn name_record(started: bool, bytes: &[u8], said: &Said) -> String {
+    let what = match record::read(bytes) {
+        _ if !started => "first".to_string(),
+        Err(_) => "unreadable".to_string(),
+        Ok(Record::Start { .. }) => "start".to_string(),
+        Ok(Record::Event { call, .. }) => call.to_string(),
+    };
+    match said {
+        Said::Ok(woken) if what == "complete" => format!("{what} ok {}", amount(woken.len())),
+        _ => format!("{what} {said}"),
+    }
+}
+
+/// Counts what the listings of these recordings say of each kind of record.
+pub fn of_recordings(recordings: &[Vec<u8>], out: impl Write) -> io::Result<bool> {
+    let mut tally = Tally::default();
+    for recording in recordings {
+        walk(recording.as_slice(), |started, bytes, said| {
+            tally.count(name_record(started, bytes, said));
+            Ok(())
+        })?;
+    }
+    tally.print(&expected_of_recordings(), out)
+}
