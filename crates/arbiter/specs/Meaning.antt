@@ -153,11 +153,13 @@ reported t r =
 unfoldable pub report : Table → ℕ → Outcome Report
 report t j = outcome (reportCases t j) (reported t (rowOf (t .rows) j))
 
+-- the job waits, and its wait up to this time is the limit or more
+abbrev pub lateJob : ℕ → ℕ → ℕ → List Row → ℕ → Bool
+lateJob T limit time rows j = waiting T rows (rowOf rows j) && leb limit (time - rowOf rows j .since)
+
 -- the waiting jobs whose wait up to this time is the limit or more, in order of turn
 unfoldable pub lateAt : Table → ℕ → List ℕ
-lateAt t time =
-    keep (λ j. waiting (t .tokens) (t .rows) (rowOf (t .rows) j) && leb (t .limit) (time - rowOf (t .rows) j .since))
-    (line (t .rows))
+lateAt t time = keep (lateJob (t .tokens) (t .limit) time (t .rows)) (line (t .rows))
 
 -- the same up to this tick; no clock moves
 abbrev pub late : Table → ℕ → List ℕ
@@ -176,12 +178,6 @@ unfoldable pub run : Table → List Event → Table
 run t [] = t
 run t (e ∷ es) = run (next jobs t e) es
 
--- ---- Of one job in the overdue ones
-
--- the job waits, and its wait up to this time is the limit or more
-abbrev pub lateJob : ℕ → ℕ → ℕ → List Row → ℕ → Bool
-lateJob T limit time rows j = waiting T rows (rowOf rows j) && leb limit (time - rowOf rows j .since)
-
--- the same of its row r, s being what is known of the row's turn
+-- a job is late, by its row r and what is known of the row's turn
 abbrev pub lateBy : ℕ → ℕ → ℕ → Standing → Row → Bool
 lateBy T limit time s r = waitingBy T s r && leb limit (time - r .since)

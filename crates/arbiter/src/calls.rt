@@ -1,5 +1,4 @@
 // The calls: start, the five events and the two questions. An event takes the table and hands back the next one.
-ghost use mathlib.Core.Path.{_≡_};
 ghost use Rattle.event.specs.declared.said.Event.the-variants.{Ask, Beat, Complete, Open, Release};
 ghost use Rattle.rows.specs.Order.{jobs};
 ghost use Rattle.arbiter.specs.Meaning.{moved};
@@ -28,7 +27,6 @@ use event::Moment;
 use event::Refusal;
 use event::Tick;
 use rows::JOBS;
-use rows::Row;
 use rows::Turn;
 use rows::idle;
 use rows::live;

@@ -1,7 +1,7 @@
 -- The sessions that document 01 marks P, as one table of claims about the meanings, each by computation.
 use Prim.Native.Nat.{ℕ}
 use mathlib.Core.Bool.{true, false}
-use mathlib.Core.List.{List, [], _∷_}
+use mathlib.Core.List.{[], _∷_}
 use mathlib.Core.Path.{_≡_, refl}
 use Rattle.arbiter.specs.Answers as Answers
 use Rattle.arbiter.specs.Meaning.{answer, late, lateAt, next, overdue, report, run, startTable, wakes}

@@ -30,9 +30,13 @@ earlier n r = live r && ltb (r .turn .0) n
 unfoldable pub ahead : List Row → ℕ → ℕ
 ahead rows n = count (earlier n) rows
 
+-- a live row of lower turn than n that declares some member of s
+abbrev pub claims : ℕ → ℕ → Row → Bool
+claims n s r = earlier n r && meets (r .declared) s
+
 -- "in the way": how many of those declare some member of s
 unfoldable pub inWay : List Row → ℕ → ℕ → ℕ
-inWay rows n s = count (λ r. earlier n r && meets (r .declared) s) rows
+inWay rows n s = count (claims n s) rows
 
 -- Q3 forbids s to turn n: a live row of lower turn declares some member of it
 abbrev pub blocked : List Row → ℕ → ℕ → Bool
@@ -50,19 +54,13 @@ waiting T rows r = live r && (not (token T rows (r .turn .0)) || ltb 0 (r .asked
 abbrev pub bears : ℕ → Row → Bool
 bears n r = live r && eqb (r .turn .0) n
 
--- no two live rows share a turn
-unfoldable pub distinct : List Row → Bool
-distinct rows = all (λ r. not (live r) || eqb (count (bears (r .turn .0)) rows) 1) rows
-
--- ---- The tests of one row in them
-
--- a live row of lower turn than n that declares some member of s
-abbrev pub claims : ℕ → ℕ → Row → Bool
-claims n s r = earlier n r && meets (r .declared) s
-
 -- an idle row, or the only live row of its turn
 abbrev pub alone : List Row → Row → Bool
 alone rows r = not (live r) || eqb (count (bears (r .turn .0)) rows) 1
+
+-- no two live rows share a turn
+unfoldable pub distinct : List Row → Bool
+distinct rows = all (alone rows) rows
 
 -- what a row was opened with, which is all that the order looks at: its turn and its declared set
 abbrev pub opened : Row → Row

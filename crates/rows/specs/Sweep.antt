@@ -23,23 +23,21 @@ rested T rows r =
     cond (waiting T rows r) r
     (record { turn = r .turn; declared = r .declared; held = r .held; asked = r .asked; since = 0 })
 
--- every asked set that Q3 allows is granted, and whoever no longer waits has no waiting time
-unfoldable pub settled : ℕ → List Row → List Row
-settled T rows = map (λ r. rested T rows (granted rows r)) rows
-
--- the jobs that waited before and do not wait after, in order of turn
-unfoldable pub woken : ℕ → List Row → List Row → List ℕ
-woken T before after = keep (λ j. waiting T before (rowOf before j) && not (waiting T after (rowOf after j))) (line after)
-
--- ---- Of one row and one job in them
-
 -- the row after the sweep
 abbrev pub swept : ℕ → List Row → Row → Row
 swept T rows r = rested T rows (granted rows r)
 
+-- every asked set that Q3 allows is granted, and whoever no longer waits has no waiting time
+unfoldable pub settled : ℕ → List Row → List Row
+settled T rows = map (swept T rows) rows
+
 -- the job waited before and does not wait after
 abbrev pub woke : ℕ → List Row → List Row → ℕ → Bool
 woke T before after j = waiting T before (rowOf before j) && not (waiting T after (rowOf after j))
+
+-- the jobs that waited before and do not wait after, in order of turn
+unfoldable pub woken : ℕ → List Row → List Row → List ℕ
+woken T before after = keep (woke T before after) (line after)
 
 -- ---- Laws
 

@@ -1,12 +1,11 @@
 -- Each arm is the method of that event; all but complete leave the lent list as it was.
 use mathlib.Core.List.{List, []}
-use mathlib.Core.Path.{_≡_, refl, sym, _∙_}
+use mathlib.Core.Path.{_≡_, refl, sym}
 use Prim.Native.Nat.{ℕ}
 use lib.ListN.{length}
 use Rattle.event.specs.declared.said.Event.{Event}
 use Rattle.laws.specs.Cases.{leaves-same}
 use Rattle.laws.specs.Front.{over}
-use Rattle.rows.specs.Order.{jobs}
 use Rattle.arbiter.specs.Meaning.{answer, listed, next, wakes}
 use Rattle.arbiter.specs.Promises.{Answered, AnsweredInto}
 use Rattle.arbiter.specs.Refusals.{cases}

@@ -7,11 +7,10 @@ use Rattle.laws.specs.Cases.{ascends, case}
 use Rattle.rows.specs.Line.{rowOf}
 use Rattle.rows.specs.Order.{jobs}
 use Rattle.arbiter.proofs.Answering.{accepted-answers, refused-answers}
-use Rattle.arbiter.proofs.Verdicts.{has-row, last-in-range}
+use Rattle.arbiter.proofs.Verdicts.{has-row}
 use Rattle.arbiter.specs.Meaning.{askedRow, moved, timeAt}
 use Rattle.arbiter.specs.Refusals.{cases}
 use lib.ListN.{set}
-use Prim.Native.Nat.{_+_}
 use borrow.Author.Needs.{needs}
 use Rattle.arbiter.proofs.table.Table.ask.Statement.{statement}
 use Rattle.arbiter.proofs.table.Table.ask.Tie as tie

@@ -4,7 +4,6 @@ use mathlib.Core.Path.{refl, sym, ap, _∙_}
 use Rattle.event.specs.Clock.{momentOf}
 use Rattle.event.specs.declared.said.Event.the-variants.{Open}
 use Rattle.laws.specs.Cases.{ascends, case}
-use Rattle.rows.specs.Line.{rowOf}
 use Rattle.rows.specs.Order.{jobs}
 use Rattle.arbiter.proofs.Answering.{accepted-answers, refused-answers}
 use Rattle.arbiter.proofs.Verdicts.{has-row, last-in-range}

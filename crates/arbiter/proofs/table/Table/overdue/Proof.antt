@@ -1,7 +1,7 @@
 -- A refused verdict leaves the list; an accepted one lists the jobs that are late.
 use Prim.Native.Nat.{ℕ}
 use mathlib.Core.List.{List}
-use mathlib.Core.Path.{_≡_, refl, sym, ap, _∙_}
+use mathlib.Core.Path.{_≡_, sym, ap, _∙_}
 use borrow.Author.Tests.{le-ltb, lt-ltb}
 use lib.ListN.{length}
 use Rattle.event.specs.Clock.{momentOf}
@@ -13,7 +13,6 @@ use Rattle.rows.specs.Line.{Listed}
 use Rattle.arbiter.specs.Meaning.{late, lateAt, overdue, overdueList, timeAt}
 use Rattle.arbiter.specs.Promises.{ToldLate}
 use Rattle.arbiter.specs.Refusals.{overdueCases}
-use Rattle.arbiter.specs.declared.table.Late.{Late}
 use Rattle.arbiter.specs.declared.table.Late.the-variants.{Count, No}
 use Rattle.arbiter.specs.declared.table.Table.{Table}
 use borrow.Author.Needs.{needs}

@@ -5,7 +5,7 @@ use lib.ListN.{replicate}
 use Rattle.laws.specs.Cases.{leaves-is, none, outcome-is, past, this}
 use Rattle.rows.specs.Order.{jobs}
 use Rattle.rows.specs.declared.row.Row.{Row}
-use Rattle.arbiter.specs.Meaning.{freshTable, startAnswer, startTable}
+use Rattle.arbiter.specs.Meaning.{startAnswer, startTable}
 use Rattle.arbiter.specs.declared.table.Table.{Table}
 use borrow.Author.Needs.{needs}
 use Rattle.arbiter.proofs.table.Table.start.Statement.{statement}
