@@ -46,7 +46,7 @@ askedRow t r time s =
     (record { turn = r .turn; declared = r .declared; held = r .held; asked = s; since = time })
     (record { turn = r .turn; declared = r .declared; held = union (r .held) s; asked = r .asked; since = r .since })
 
--- the members are no longer held; the declared set stays whole
+-- a release takes the members out of the held set and leaves the declared set alone
 abbrev pub releasedRow : Row → ℕ → Row
 releasedRow r s =
     record { turn = r .turn; declared = r .declared; held = without (r .held) s; asked = r .asked; since = r .since }

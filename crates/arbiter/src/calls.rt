@@ -119,7 +119,7 @@ impl Table {
         }
     }
 
-    // The members are no longer held; the declared set stays whole.
+    // The members leave the held set; the declared set is left alone.
     pub fn release(self, job: u32, tick: Tick, members: u64) -> Next
         ensures { λ r. ⌜ Answered jobs self (Release job tick members) r ⌝ }
     {

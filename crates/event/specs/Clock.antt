@@ -12,11 +12,11 @@ use Rattle.event.specs.declared.clock.Moment.the-variants.{No, At}
 
 -- ---- Definitions
 
--- the forward difference: the tick minus the low 32 bits of true time, modulo 2^32
+-- the forward difference: how far the tick lies ahead of true time's low 32 bits, around the wrap
 abbrev pub difference : ℕ → ℕ → ℕ
 difference time tick = (tick + 2 ^ 32 - time % 2 ^ 32) % 2 ^ 32
 
--- a difference of 2^31 or more is a clock gone back; true time ends at 2^63-1
+-- 5 from a difference of 2^31 on, 6 where the next true time would lie past 2^63-1
 abbrev pub clockCases : ℕ → ℕ → List Case
 clockCases time tick =
     when 5 (leb (2 ^ 31) (difference time tick)) ∷ when 6 (ltb (2 ^ 63 - 1) (time + difference time tick)) ∷ []

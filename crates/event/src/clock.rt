@@ -6,7 +6,7 @@ use crate::refusal::Refusal;
 // Ticks start again from 0 after 2^32 - 1.
 const WRAP: u64 = 4_294_967_296;
 
-// A forward difference of 2^31 or more is a clock gone back.
+// From this difference on the clock has gone back: 2^31.
 const GONE_BACK: u64 = 2_147_483_648;
 
 // The last true time, 2^63 - 1.

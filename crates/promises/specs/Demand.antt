@@ -1,4 +1,4 @@
--- Demand 3 of document 00, sentence by sentence: what a request is promised at any moment after its opening.
+-- Demand 3 of document 00, part by part: what a request is promised at any moment after its opening.
 use Prim.Native.Nat.{ℕ, _+_, _-_, _≤_}
 use mathlib.Core.Bool.{Bool, true, false, not, cond}
 use mathlib.Core.List.{List}
@@ -80,15 +80,14 @@ module _ (T R begin limit : ℕ) (past : List Event) (j : ℕ) (tick : Tick) (s 
 
   -- what is promised; since `later` is any sequence, at every moment while the request is live
   pub record Demand3 : Type 0 where
-    -- "It has its token after exactly as many completions as p exceeds T-1, none if it doesn't."
-    -- The event that brings the token lists the job as woken, once, and none before it does.
+    -- the token: at once if at most T-1 stand before it, else with the completion that leaves so few;
+    -- that event lists the job as woken, once, and none before it does
     pub opening-says : answer jobs before (Open j tick s) ≡ fine (cond (leb p (T - 1)) Answers.token Answers.wait)
     pub token-comes : token T (now .rows) n ≡ leb (p - (T - 1)) (leavings live opened later)
     pub token-told :
         (e : Event) → token T (now .rows) n ≡ false →
         count (eqb j) (lists now e) ≡ bit (token T (next jobs now e .rows) n)
-    -- "With its token, a set it asks for waits exactly while an earlier-opened live request has declared some member of
-    -- that set, and is then granted whole."
+    -- the sets: an accepted ask has the token, and waits just where an earlier-opened live request declares a member
     pub ask-has-token : (at : Tick) (x : ℕ) → taken now (Ask j at x) ≡ true → token T (now .rows) n ≡ true
     pub ask-says :
         (at : Tick) (x : ℕ) → taken now (Ask j at x) ≡ true →
@@ -96,13 +95,12 @@ module _ (T R begin limit : ℕ) (past : List Event) (j : ℕ) (tick : Tick) (s 
     pub ask-granted :
         (at : Tick) (x : ℕ) → taken now (Ask j at x) ≡ true →
         Granted j n x (rowIn now j .held) (next jobs now (Ask j at x))
-    -- "Of those declaring anything it declares there are at most T-1 when its token comes, and the number reported is that
-    -- number less those of them since completed."
+    -- in the way: at most T-1 once it has its token, and a later report gives that number less those of them that left
     pub way-bounded : token T (now .rows) n ≡ true → inWay (now .rows) n s ≤ T - 1
     pub way-reported :
         (since : List Event) (r : Report) → report (run now since) j ≡ fine r → r .turn .0 ≡ n →
         r .«in_way» + leavings (claims n s) now since ≡ inWay (now .rows) n s
-    -- "No request opened later and no refused event enters this."
+    -- no latecomer and no refused event has any part in it
     pub token-by-earlier : token T (now .rows) n ≡ leb (p - (T - 1)) (leavings (earlier n) opened later)
     pub later-unseen : (e : Event) → Beside n now e → Unmoved n now e
     pub refused-before : run (startTable T R begin limit) (heeded (startTable T R begin limit) past) ≡ before

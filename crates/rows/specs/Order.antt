@@ -18,7 +18,7 @@ jobs = 64
 abbrev pub idle : Row
 idle = record { turn = record { 0 = 0 }; declared = 0; held = 0; asked = 0; since = 0 }
 
--- turn 0 makes a row idle, any other turn live
+-- a row whose turn is not 0 is a request
 abbrev pub live : Row → Bool
 live r = ltb 0 (r .turn .0)
 
@@ -42,7 +42,7 @@ inWay rows n s = count (claims n s) rows
 abbrev pub blocked : List Row → ℕ → ℕ → Bool
 blocked rows n s = ltb 0 (inWay rows n s)
 
--- the live requests with the T lowest turns hold the tokens
+-- turn n has a token: fewer than T live rows come before it
 abbrev pub token : ℕ → List Row → ℕ → Bool
 token T rows n = ltb (ahead rows n) T
 
