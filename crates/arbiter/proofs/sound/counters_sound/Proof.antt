@@ -15,7 +15,7 @@ both-requires c κs = search needs
 
 returns : tie.Need-returns
 unfolding all
-returns c = simp and-true (cc (not-ltb (2 ^ 63 - 1) (c .before .before .args .last .0)))
+returns c = rw (c .both .ensures, c .before .earlier .ensures, not-ltb, and-true)
 
 pub counters-sound-spec : {M : Type 1} → statement M
 counters-sound-spec = tie.close (tie.spec earlier-requires both-requires returns)

@@ -16,7 +16,7 @@ both-requires-3 c κs = search needs
 
 returns : tie.Need-returns
 unfolding all
-returns c = simp and-true (cc)
+returns c = rw (c .both3 .ensures, c .before .both2 .ensures, c .before .before .before .before .both .ensures, and-true)
 
 pub idle-sound-spec : {M : Type 1} → statement M
 idle-sound-spec = tie.close (tie.spec both-requires both-requires-2 both-requires-3 returns)

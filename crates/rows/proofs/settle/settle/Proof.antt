@@ -10,7 +10,7 @@ rested-requires : tie.Need-rested-requires
 rested-requires c κs = search needs
 
 returns : tie.Need-returns
-returns c = cc
+returns c = rw (c .before .granted .ensures) at (c .rested .ensures)
 
 pub settle-spec : {M : Type 1} → statement M
 settle-spec = tie.close (tie.spec granted-requires rested-requires returns)
