@@ -47,6 +47,10 @@ actCases t j tick = entryCases t j tick ++ actorCases t (rowOf (t .rows) j)
 abbrev pub setCases : ℕ → ℕ → List Case
 setCases R s = when 11 (eqb s 0) ∷ when 12 (not (below s R)) ∷ []
 
+-- what is asked of a job that acts on a set, by an ask or a release
+abbrev pub actOnCases : Table → ℕ → ℕ → ℕ → List Case
+actOnCases t j tick s = actCases t j tick ++ setCases (t .resources) s
+
 -- what is asked of the last turn: there is one more to give
 abbrev pub turnCases : ℕ → List Case
 turnCases last = when 16 (eqb last (2 ^ 63 - 1)) ∷ []
@@ -67,8 +71,8 @@ releaseCases r s = when 15 (not (inside s (r .held))) ∷ []
 abbrev pub cases : ℕ → Table → Event → List Case
 cases n t (Beat tick) = tickCases t (tick .0)
 cases n t (Open j tick s) = entryCases t j (tick .0) ++ openCases t j s
-cases n t (Ask j tick s) = actCases t j (tick .0) ++ (setCases (t .resources) s ++ askCases (rowOf (t .rows) j) s)
-cases n t (Release j tick s) = actCases t j (tick .0) ++ (setCases (t .resources) s ++ releaseCases (rowOf (t .rows) j) s)
+cases n t (Ask j tick s) = actOnCases t j (tick .0) s ++ askCases (rowOf (t .rows) j) s
+cases n t (Release j tick s) = actOnCases t j (tick .0) s ++ releaseCases (rowOf (t .rows) j) s
 cases n t (Complete j tick) = shortList n ∷ actCases t j (tick .0)
 
 -- the case of a start

@@ -1,6 +1,5 @@
 // Why a call is refused: each test of document 01's refusals written once, in the order of their numbers.
 ghost use Prim.Native.Nat.{_-_, _^_, _<_};
-ghost use mathlib.Core.List.{_++_};
 ghost use mathlib.Core.Path.{_≡_};
 ghost use lib.Dec.{eqb};
 ghost use Rattle.event.specs.Clock.{momentOf};
@@ -10,7 +9,7 @@ ghost use Rattle.rows.specs.Line.{rowOf};
 ghost use Rattle.rows.specs.Order.{jobs};
 ghost use Rattle.rows.specs.Stand.{Surveyed};
 ghost use Rattle.arbiter.specs.Meaning.{timeAt};
-ghost use Rattle.arbiter.specs.Refusals.{actCases, actorCases, askCases, cases, entryCases, openCases, releaseCases, setCases, tickCases, turnCases};
+ghost use Rattle.arbiter.specs.Refusals.{actCases, actOnCases, actorCases, askCases, cases, entryCases, openCases, releaseCases, setCases, tickCases, turnCases};
 use crate::sound::LAST;
 use crate::sound::is_sound;
 use crate::table::Table;
@@ -146,32 +145,6 @@ fn open_at(t: Table, k: usize, s: u64, time: u64) -> Moment
     }
 }
 
-// 11 to 14: what is asked of an ask once its job may act.
-fn ask_at(t: Table, k: usize, s: u64, time: u64) -> Moment
-    requires { ⌜ k < jobs ⌝ }
-    ensures { λ r. ⌜ momentOf r ≡ outcome (setCases (t .resources) s ++ askCases (rowOf (t .rows) k) s) time ⌝ }
-{
-    let row = t.rows[k];
-    let verdict = set_verdict(t.resources, s, time);
-    match verdict {
-        Moment::No(refusal) => Moment::No(refusal),
-        Moment::At(now) => ask_set_verdict(row, s, now),
-    }
-}
-
-// 11, 12, 15: what is asked of a release once its job may act.
-fn release_at(t: Table, k: usize, s: u64, time: u64) -> Moment
-    requires { ⌜ k < jobs ⌝ }
-    ensures { λ r. ⌜ momentOf r ≡ outcome (setCases (t .resources) s ++ releaseCases (rowOf (t .rows) k) s) time ⌝ }
-{
-    let row = t.rows[k];
-    let verdict = set_verdict(t.resources, s, time);
-    match verdict {
-        Moment::No(refusal) => Moment::No(refusal),
-        Moment::At(now) => release_set_verdict(row, s, now),
-    }
-}
-
 // 3 to 6 and 8 to 10: the refusals of a job that acts, and all but the lent list's of a completion.
 pub fn act_verdict(t: Table, known: Survey, job: u32, tick: Tick) -> Moment
     requires { ⌜ Surveyed (t .rows) known ⌝ }
@@ -196,15 +169,30 @@ pub fn open_verdict(t: Table, known: Survey, job: u32, tick: Tick, s: u64) -> Mo
     }
 }
 
+// 3 to 6 and 8 to 12: the refusals of a job that acts on a set, which an ask and a release share.
+fn act_on_verdict(t: Table, known: Survey, job: u32, tick: Tick, s: u64) -> Moment
+    requires { ⌜ Surveyed (t .rows) known ⌝ }
+    ensures { λ r. ⌜ momentOf r ≡ outcome (actOnCases t job (tick .0) s) (timeAt t (tick .0)) ⌝ }
+{
+    let act = act_verdict(t, known, job, tick);
+    match act {
+        Moment::No(refusal) => Moment::No(refusal),
+        Moment::At(time) => set_verdict(t.resources, s, time),
+    }
+}
+
 // The refusals of an ask.
 pub fn ask_verdict(t: Table, known: Survey, job: u32, tick: Tick, s: u64) -> Moment
     requires { ⌜ Surveyed (t .rows) known ⌝ }
     ensures { λ r. ⌜ momentOf r ≡ outcome (cases jobs t (Ask job tick s)) (timeAt t (tick .0)) ⌝ }
 {
-    let act = act_verdict(t, known, job, tick);
+    let act = act_on_verdict(t, known, job, tick, s);
     match act {
         Moment::No(refusal) => Moment::No(refusal),
-        Moment::At(time) => ask_at(t, job as usize, s, time),
+        Moment::At(time) => {
+            let row = t.rows[job as usize];
+            ask_set_verdict(row, s, time)
+        }
     }
 }
 
@@ -213,9 +201,12 @@ pub fn release_verdict(t: Table, known: Survey, job: u32, tick: Tick, s: u64) ->
     requires { ⌜ Surveyed (t .rows) known ⌝ }
     ensures { λ r. ⌜ momentOf r ≡ outcome (cases jobs t (Release job tick s)) (timeAt t (tick .0)) ⌝ }
 {
-    let act = act_verdict(t, known, job, tick);
+    let act = act_on_verdict(t, known, job, tick, s);
     match act {
         Moment::No(refusal) => Moment::No(refusal),
-        Moment::At(time) => release_at(t, job as usize, s, time),
+        Moment::At(time) => {
+            let row = t.rows[job as usize];
+            release_set_verdict(row, s, time)
+        }
     }
 }

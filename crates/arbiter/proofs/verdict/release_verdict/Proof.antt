@@ -1,17 +1,18 @@
--- The cases of a job that acts, then those of the release.
+-- The cases that a release shares with an ask, then that of its members.
 use mathlib.Core.Path.{refl, sym, ap, _∙_}
 use Rattle.event.specs.Clock.{momentOf}
-use mathlib.Core.List.{_++_}
 use Rattle.laws.specs.Cases.{ascends, case, outcome-back, outcome-front}
 use Rattle.rows.specs.Line.{rowOf}
+use Rattle.rows.specs.Order.{jobs}
 use Rattle.arbiter.proofs.Verdicts.{has-row}
-use Rattle.arbiter.specs.Refusals.{actCases, releaseCases, setCases}
+use Rattle.arbiter.specs.Refusals.{actOnCases, releaseCases}
+use Prim.Native.Nat.{_<_}
 use borrow.Author.Needs.{needs}
 use Rattle.arbiter.proofs.verdict.release_verdict.Statement.{statement}
 use Rattle.arbiter.proofs.verdict.release_verdict.Tie as tie
 
-act-verdict-requires : tie.Need-act-verdict-requires
-act-verdict-requires c κs = search needs
+act-on-verdict-requires : tie.Need-act-on-verdict-requires
+act-on-verdict-requires c κs = search needs
 
 enum-known-act : tie.Need-enum-known-act
 enum-known-act c = search needs
@@ -19,34 +20,43 @@ enum-known-act c = search needs
 enum-known-act-2 : tie.Need-enum-known-act-2
 enum-known-act-2 c = search needs
 
-release-at-requires : tie.Need-release-at-requires
+mul-row : tie.Need-mul-row
+mul-row c = search needs
+
+element-copy-out-row : tie.Need-element-copy-out-row
 unfolding ascends case
-release-at-requires c κs =
+element-copy-out-row c =
     let a = c .before .before .before .before .args in
-    let e = sym (ap momentOf (c .before .act2 .given .1)) ∙ c .before .before .before .act-verdict .ensures in
-    has-row (actCases (a .t) (a .job) (a .tick .0)) (a .job) _ _ refl refl e
+    let e = sym (ap momentOf (c .before .act2 .given .1)) ∙ c .before .before .before .act-on-verdict .ensures in
+    let within : a .job < jobs = has-row (actOnCases (a .t1) (a .job) (a .tick .0) (a .s)) (a .job) _ _ refl refl e in
+    search needs
+
+release-set-verdict-requires : tie.Need-release-set-verdict-requires
+release-set-verdict-requires c κs = search needs
 
 returns : tie.Need-returns
 returns c =
     let a = c .before .before .before .before .args in
-    outcome-front _ (actCases (a .t) (a .job) (a .tick .0)) (setCases (a .t .resources) (a .s) ++ releaseCases (rowOf (a .t .rows) (a .job)) (a .s)) _
-    (sym (ap momentOf (c .before .act .given .1)) ∙ c .before .before .before .act-verdict .ensures)
+    outcome-front _ (actOnCases (a .t1) (a .job) (a .tick .0) (a .s)) (releaseCases (rowOf (a .t1 .rows) (a .job)) (a .s)) _
+    (sym (ap momentOf (c .before .act .given .1)) ∙ c .before .before .before .act-on-verdict .ensures)
 
 returns-2 : tie.Need-returns-2
 unfolding ascends
 returns-2 c =
-    let a = c .before .before .before .before .before .args in
-    outcome-back (actCases (a .t) (a .job) (a .tick .0)) (setCases (a .t .resources) (a .s) ++ releaseCases (rowOf (a .t .rows) (a .job)) (a .s)) _ _ _ refl
-    (sym (ap momentOf (c .before .before .act2 .given .1)) ∙ c .before .before .before .before .act-verdict .ensures)
-    (c .release-at .ensures)
+    let a = c .before .before .before .before .before .before .args in
+    outcome-back (actOnCases (a .t1) (a .job) (a .tick .0) (a .s)) (releaseCases (rowOf (a .t1 .rows) (a .job)) (a .s)) _ _ _ refl
+    (sym (ap momentOf (c .before .before .before .act2 .given .1)) ∙ c .before .before .before .before .before .act-on-verdict .ensures)
+    (c .release-set-verdict .ensures)
 
 pub release-verdict-spec : {M : Type 1} → statement M
 release-verdict-spec =
     tie.close
     (tie.spec
-    act-verdict-requires
+    act-on-verdict-requires
     enum-known-act
     enum-known-act-2
-    release-at-requires
+    mul-row
+    element-copy-out-row
+    release-set-verdict-requires
     returns
     returns-2)
