@@ -2,6 +2,7 @@
 use mathlib.Core.Path.{sym, _∙_}
 use borrow.Author.Needs.{needs}
 use borrow.Author.Tests.{le-leb}
+use native.Mathlib.Omega.{arith}
 use Rattle.laws.specs.Sets.{below-shift, below-wide}
 use Rattle.laws.proofs.sets.below.Statement.{statement}
 use Rattle.laws.proofs.sets.below.Tie as tie
@@ -12,7 +13,7 @@ shr-result c = search needs
 returns : tie.Need-returns
 returns c =
     le-leb _ (c .before .args .r) (c .if1 .taken)
-    ∙ sym (below-wide _ (c .before .args .s) (c .before .args .r) (search needs) (c .if1 .taken))
+    ∙ sym (below-wide _ (c .before .args .s) (c .before .args .r) (omega arith) (c .if1 .taken))
 
 returns-2 : tie.Need-returns-2
 returns-2 c = sym (below-shift (c .before .args .s) (c .before .args .r))

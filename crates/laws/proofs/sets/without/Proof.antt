@@ -1,5 +1,5 @@
 -- `laws::sets::without` meets its contract: the code computes the definition, and what it takes away is never more than `s`.
-use borrow.Author.Needs.{needs}
+use mathlib.Core.Path.{refl}
 use Rattle.laws.specs.Sets.{meet, without, meet-le}
 use Rattle.laws.proofs.sets.without.Statement.{statement}
 use Rattle.laws.proofs.sets.without.Tie as tie
@@ -10,7 +10,7 @@ sub-result c = search meet-le
 
 returns : tie.Need-returns
 unfolding without meet
-returns c = search needs
+returns c = refl
 
 pub without-spec : {M : Type 1} → statement M
 without-spec = tie.close (tie.spec sub-result returns)
