@@ -66,15 +66,15 @@ pub fn opened(t: Table, k: usize, time: u64, s: u64) -> Next
         declared: s,
         held: 0,
         asked: 0,
-        since: 0,
+        since: time,
     };
     if rows::token(rows::standing(rows, turn), t.tokens) {
+        row.since = 0;
         return Next {
             answer: Answer::Token,
             table: with_row(t, time, turn, k, row),
         };
     }
-    row.since = time;
     Next {
         answer: Answer::Wait,
         table: with_row(t, time, turn, k, row),
