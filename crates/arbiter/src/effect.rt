@@ -91,8 +91,10 @@ pub fn asked(t: Table, known: Survey, k: usize, time: u64, s: u64) -> Next
     let rows = t.rows;
     let standings = known.standings;
     let standing = standings[k];
+    let claims = standing.claims;
     let mut row = rows[k];
-    if sets::meets(standing.claims, s) {
+    let held = row.held;
+    if sets::meets(claims, s) {
         row.asked = s;
         row.since = time;
         return Next {
@@ -100,7 +102,7 @@ pub fn asked(t: Table, known: Survey, k: usize, time: u64, s: u64) -> Next
             table: with_row(t, time, last, k, row),
         };
     }
-    row.held = sets::union(row.held, s);
+    row.held = sets::union(held, s);
     Next {
         answer: Answer::Granted,
         table: with_row(t, time, last, k, row),

@@ -12,7 +12,7 @@ use Rattle.rows.specs.Order.{jobs}
 use Rattle.rows.specs.Sweep.{settled, woke, woken}
 use Rattle.rows.specs.declared.row.Row.{Row}
 use Rattle.arbiter.specs.Answers as Answers
-use Rattle.arbiter.specs.Meaning.{completedRows}
+use Rattle.arbiter.specs.Meaning.{completedRows, moved}
 use Rattle.arbiter.proofs.effect.completed.Statement.{statement}
 use Rattle.arbiter.proofs.effect.completed.Tie as tie
 
@@ -72,7 +72,7 @@ returns c =
     rw same at (listed-line (woke (t .tokens) (t .rows) after) after (marks .result) (lines .result) (lines .ensures)
     (λ j h. marks .ensures j (omega arith)) (c .before .before .before .write-marked .ensures)) in
     record {
-      does = record { says = ap (λ (n : ℕ). fine (Answers.woke n)) (lists .told); hands = rw same at (c .moved .ensures) };
+      does = record { says = ap (λ (n : ℕ). fine (Answers.woke n)) (lists .told); hands = c .moved .ensures ∙ ap (moved t (start .args .time) (t .last .0)) same };
       lists = lists .left;
     }
 

@@ -1,9 +1,10 @@
 -- `arbiter::effect::opened` meets its contract: what is known of the next turn says whether it has a token.
-use Prim.Native.Nat.{_+_}
-use mathlib.Core.Path.{_≡_, sym, _∙_}
+use Prim.Native.Nat.{ℕ, _+_}
+use mathlib.Core.Path.{_≡_, sym, subst, _∙_}
 use borrow.Author.Needs.{needs}
 use Rattle.rows.specs.Known.{token-by}
 use Rattle.rows.specs.Order.{token}
+use Rattle.rows.specs.Stand.{Stands}
 use Rattle.arbiter.proofs.effect.opened.Statement.{statement}
 use Rattle.arbiter.proofs.effect.opened.Tie as tie
 
@@ -15,7 +16,9 @@ token-is c =
     let t = c .before .before .before .before .before .args .t in
     let turn = c .before .before .next-turn in
     let stands = c .before .standing in
-    sym (c .token .ensures ∙ token-by (t .tokens) (t .rows) (stands .result) (t .last .0 + 1) (rw (turn .ensures) at (stands .ensures)))
+    sym
+    (c .token .ensures ∙ token-by (t .tokens) (t .rows) (stands .result) (t .last .0 + 1)
+    (subst (λ (n : ℕ). Stands (t .rows) n (stands .result)) (turn .ensures) (stands .ensures)))
 
 next-turn-requires : tie.Need-next-turn-requires
 next-turn-requires c κs = search needs

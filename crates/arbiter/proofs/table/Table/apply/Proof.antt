@@ -1,12 +1,13 @@
 -- Each arm is the method of that event; all but complete leave the lent list as it was.
 use mathlib.Core.List.{List, []}
-use mathlib.Core.Path.{_≡_, refl, sym}
+use mathlib.Core.Path.{_≡_, refl, sym, ap, _∙_}
 use Prim.Native.Nat.{ℕ}
 use lib.ListN.{length}
 use Rattle.event.specs.declared.said.Event.{Event}
-use Rattle.laws.specs.Cases.{leaves-same}
+use Rattle.laws.specs.Cases.{Case, leaves, leaves-same, outcome}
 use Rattle.laws.specs.Front.{over}
-use Rattle.arbiter.specs.Meaning.{answer, listed, next, wakes}
+use Rattle.rows.specs.Order.{jobs}
+use Rattle.arbiter.specs.Meaning.{accepted, answer, listed, next, told, wakes}
 use Rattle.arbiter.specs.Promises.{Answered, AnsweredInto}
 use Rattle.arbiter.specs.Refusals.{cases}
 use Rattle.arbiter.specs.declared.table.Next.{Next}
@@ -15,11 +16,19 @@ use borrow.Author.Needs.{needs}
 use Rattle.arbiter.proofs.table.Table.apply.Statement.{statement}
 use Rattle.arbiter.proofs.table.Table.apply.Tie as tie
 
--- an event that wakes nobody leaves the lent list as it was
+-- an event that wakes nobody and is judged without looking at the lent list leaves it as it was
 module _ (t : Table) (e : Event) (out : List ℕ) (r : Next) where
-  unlisted : wakes t e ≡ [] → Answered (length out) t e r → AnsweredInto t e out r out
-  unfolding listed over
-  unlisted quiet p = record { answered = p; lists = sym (rw quiet (leaves-same (cases (length out) t e) out)) }
+  unlisted : wakes t e ≡ [] → cases jobs t e ≡ cases (length out) t e → Answered jobs t e r → AnsweredInto t e out r out
+  unfolding answer next listed over
+  unlisted quiet same p =
+      record {
+        answered =
+            record {
+              says = p .says ∙ ap (λ (cs : List Case). outcome cs (told t e)) same;
+              hands = p .hands ∙ ap (λ (cs : List Case). leaves cs t (accepted t e)) same;
+            };
+        lists = sym (rw quiet (leaves-same (cases (length out) t e) out));
+      }
 
 enum-known-event : tie.Need-enum-known-event
 enum-known-event c = search needs
@@ -52,32 +61,24 @@ complete-requires : tie.Need-complete-requires
 complete-requires c κs = search needs
 
 returns : tie.Need-returns
-unfolding answer next
 returns c =
     let a = c .before .before .before .before .before .args in
-    rw (c .before .before .event .given .1) (unlisted (a .self) _ (a .woken .now) _ refl
-    (record { says = c .beat .ensures .says; hands = c .beat .ensures .hands }))
+    rw (c .before .before .event .given .1) (unlisted (a .self) _ (a .woken .now) _ refl refl (c .beat .ensures))
 
 returns-2 : tie.Need-returns-2
-unfolding answer next
 returns-2 c =
     let a = c .before .before .before .before .before .args in
-    rw (c .before .before .event2 .given .1) (unlisted (a .self) _ (a .woken .now) _ refl
-    (record { says = c .«open» .ensures .says; hands = c .«open» .ensures .hands }))
+    rw (c .before .before .event2 .given .1) (unlisted (a .self) _ (a .woken .now) _ refl refl (c .«open» .ensures))
 
 returns-3 : tie.Need-returns-3
-unfolding answer next
 returns-3 c =
     let a = c .before .before .before .before .before .args in
-    rw (c .before .before .event3 .given .1) (unlisted (a .self) _ (a .woken .now) _ refl
-    (record { says = c .ask .ensures .says; hands = c .ask .ensures .hands }))
+    rw (c .before .before .event3 .given .1) (unlisted (a .self) _ (a .woken .now) _ refl refl (c .ask .ensures))
 
 returns-4 : tie.Need-returns-4
-unfolding answer next
 returns-4 c =
     let a = c .before .before .before .before .before .args in
-    rw (c .before .before .event4 .given .1) (unlisted (a .self) _ (a .woken .now) _ refl
-    (record { says = c .release .ensures .says; hands = c .release .ensures .hands }))
+    rw (c .before .before .event4 .given .1) (unlisted (a .self) _ (a .woken .now) _ refl refl (c .release .ensures))
 
 same-length : tie.Need-same-length
 same-length c = search needs
