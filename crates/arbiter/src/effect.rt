@@ -21,7 +21,7 @@ use rows::Survey;
 use rows::Turn;
 
 // The table at this time with this last turn and rows.
-pub fn moved(t: Table, time: u64, last: Turn, rows: [Row; JOBS]) -> Table
+pub(crate) fn moved(t: Table, time: u64, last: Turn, rows: [Row; JOBS]) -> Table
     ensures { λ r. ⌜ r ≡ moved t time (last .0) rows ⌝ }
 {
     Table {
@@ -53,7 +53,7 @@ fn next_turn(last: Turn) -> Turn
 }
 
 // An opening: the next turn, and a wait from now on if it has no token.
-pub fn opened(t: Table, k: usize, time: u64, s: u64) -> Next
+pub(crate) fn opened(t: Table, k: usize, time: u64, s: u64) -> Next
     requires { ⌜ k < jobs ⌝ }
     requires { ⌜ t .last .0 < 2 ^ 63 ⌝ }
     ensures { λ r. ⌜ Does (toldOpen t) (moved t time (t .last .0 + 1) (set (t .rows) k (openedRow t time s))) r ⌝ }
@@ -82,7 +82,7 @@ pub fn opened(t: Table, k: usize, time: u64, s: u64) -> Next
 }
 
 // An ask: the whole set is held, or the whole set is asked from now on.
-pub fn asked(t: Table, known: Survey, k: usize, time: u64, s: u64) -> Next
+pub(crate) fn asked(t: Table, known: Survey, k: usize, time: u64, s: u64) -> Next
     requires { ⌜ Surveyed (t .rows) known ⌝ }
     requires { ⌜ k < jobs ⌝ }
     ensures { λ r. ⌜ Does (toldAsk t (rowOf (t .rows) k) s) (moved t time (t .last .0) (set (t .rows) k (askedRow t (rowOf (t .rows) k) time s))) r ⌝ }
@@ -110,7 +110,7 @@ pub fn asked(t: Table, known: Survey, k: usize, time: u64, s: u64) -> Next
 }
 
 // A release: the members are no longer held.
-pub fn released(t: Table, k: usize, time: u64, s: u64) -> Next
+pub(crate) fn released(t: Table, k: usize, time: u64, s: u64) -> Next
     requires { ⌜ k < jobs ⌝ }
     ensures { λ r. ⌜ Does done (moved t time (t .last .0) (set (t .rows) k (releasedRow (rowOf (t .rows) k) s))) r ⌝ }
 {
@@ -125,7 +125,7 @@ pub fn released(t: Table, k: usize, time: u64, s: u64) -> Next
 }
 
 // A completion: the row is idle, whoever can go on goes on, and those woken are listed.
-pub fn completed(t: Table, known: Survey, k: usize, time: u64, out: &mut [u8]) -> Next
+pub(crate) fn completed(t: Table, known: Survey, k: usize, time: u64, out: &mut [u8]) -> Next
     requires { ⌜ Surveyed (t .rows) known ⌝ }
     requires { ⌜ k < jobs ⌝ }
     requires { ⌜ jobs ≤ length (now out) ⌝ }
@@ -185,7 +185,7 @@ fn late_marks(t: Table, known: Survey, time: u64) -> [bool; JOBS]
 }
 
 // How many jobs are overdue at this time; they are listed.
-pub fn listed_late(t: Table, known: Survey, time: u64, out: &mut [u8]) -> u32
+pub(crate) fn listed_late(t: Table, known: Survey, time: u64, out: &mut [u8]) -> u32
     requires { ⌜ Surveyed (t .rows) known ⌝ }
     requires { ⌜ jobs ≤ length (now out) ⌝ }
     ensures { λ n. ⌜ Listed (lateAt t time) (now (out .entry)) n (now (out .exit)) ⌝ }
@@ -197,7 +197,7 @@ pub fn listed_late(t: Table, known: Survey, time: u64, out: &mut [u8]) -> u32
 }
 
 // What is told of a job's request.
-pub fn reported(t: Table, known: Survey, k: usize) -> Report
+pub(crate) fn reported(t: Table, known: Survey, k: usize) -> Report
     requires { ⌜ Surveyed (t .rows) known ⌝ }
     requires { ⌜ k < jobs ⌝ }
     ensures { λ r. ⌜ r ≡ reported t (rowOf (t .rows) k) ⌝ }

@@ -20,7 +20,7 @@ use rows::token;
 use rows::waiting;
 
 // The last true time and the last turn, 2^63 - 1.
-pub const LAST: u64 = 9_223_372_036_854_775_807;
+pub(crate) const LAST: u64 = 9_223_372_036_854_775_807;
 
 // The numbers of a table that each of its rows is held against.
 struct Bounds {
@@ -43,7 +43,7 @@ fn either(a: bool, b: bool) -> bool
 }
 
 // Whether T, R and the limit are in range.
-pub fn in_range(tokens: u32, resources: u32, limit: u32) -> bool
+pub(crate) fn in_range(tokens: u32, resources: u32, limit: u32) -> bool
     ensures { λ r. ⌜ r ≡ holds (ranges tokens resources limit) ⌝ }
 {
     let t = both(1 <= tokens, tokens <= 64);
@@ -134,7 +134,7 @@ fn rows_sound(t: Table, known: Survey) -> bool
 }
 
 // Whether the table is sound.
-pub fn is_sound(t: Table, known: Survey) -> bool
+pub(crate) fn is_sound(t: Table, known: Survey) -> bool
     requires { ⌜ Surveyed (t .rows) known ⌝ }
     ensures { λ x. ⌜ x ≡ sound t ⌝ }
 {

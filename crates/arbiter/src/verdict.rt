@@ -26,7 +26,7 @@ use rows::live;
 use rows::token;
 
 // 3, 5, 6: the table and the tick; else the next true time.
-pub fn clock_verdict(t: Table, known: Survey, tick: Tick) -> Moment
+pub(crate) fn clock_verdict(t: Table, known: Survey, tick: Tick) -> Moment
     requires { ⌜ Surveyed (t .rows) known ⌝ }
     ensures { λ r. ⌜ momentOf r ≡ outcome (tickCases t (tick .0)) (timeAt t (tick .0)) ⌝ }
 {
@@ -146,7 +146,7 @@ fn open_at(t: Table, k: usize, s: u64, time: u64) -> Moment
 }
 
 // 3 to 6 and 8 to 10: the refusals of a job that acts, and all but the lent list's of a completion.
-pub fn act_verdict(t: Table, known: Survey, job: u32, tick: Tick) -> Moment
+pub(crate) fn act_verdict(t: Table, known: Survey, job: u32, tick: Tick) -> Moment
     requires { ⌜ Surveyed (t .rows) known ⌝ }
     ensures { λ r. ⌜ momentOf r ≡ outcome (actCases t job (tick .0)) (timeAt t (tick .0)) ⌝ }
 {
@@ -158,7 +158,7 @@ pub fn act_verdict(t: Table, known: Survey, job: u32, tick: Tick) -> Moment
 }
 
 // The refusals of an opening.
-pub fn open_verdict(t: Table, known: Survey, job: u32, tick: Tick, s: u64) -> Moment
+pub(crate) fn open_verdict(t: Table, known: Survey, job: u32, tick: Tick, s: u64) -> Moment
     requires { ⌜ Surveyed (t .rows) known ⌝ }
     ensures { λ r. ⌜ momentOf r ≡ outcome (cases jobs t (Open job tick s)) (timeAt t (tick .0)) ⌝ }
 {
@@ -182,7 +182,7 @@ fn act_on_verdict(t: Table, known: Survey, job: u32, tick: Tick, s: u64) -> Mome
 }
 
 // The refusals of an ask.
-pub fn ask_verdict(t: Table, known: Survey, job: u32, tick: Tick, s: u64) -> Moment
+pub(crate) fn ask_verdict(t: Table, known: Survey, job: u32, tick: Tick, s: u64) -> Moment
     requires { ⌜ Surveyed (t .rows) known ⌝ }
     ensures { λ r. ⌜ momentOf r ≡ outcome (cases jobs t (Ask job tick s)) (timeAt t (tick .0)) ⌝ }
 {
@@ -197,7 +197,7 @@ pub fn ask_verdict(t: Table, known: Survey, job: u32, tick: Tick, s: u64) -> Mom
 }
 
 // The refusals of a release.
-pub fn release_verdict(t: Table, known: Survey, job: u32, tick: Tick, s: u64) -> Moment
+pub(crate) fn release_verdict(t: Table, known: Survey, job: u32, tick: Tick, s: u64) -> Moment
     requires { ⌜ Surveyed (t .rows) known ⌝ }
     ensures { λ r. ⌜ momentOf r ≡ outcome (cases jobs t (Release job tick s)) (timeAt t (tick .0)) ⌝ }
 {
