@@ -2,16 +2,22 @@
 use Prim.Native.Nat.{ℕ, _-_, _<_, _^_}
 use mathlib.Core.Bool.{not, true, _&&_}
 use mathlib.Core.List.{List}
-use mathlib.Core.Path.{_≡_, sym, _∙_}
+use mathlib.Core.Path.{_≡_, sym, ap, _∙_}
 use borrow.Author.Tests.{leb-false, leb-true, not-false}
 use native.Mathlib.Omega.{arith}
 use lib.Dec.{leb}
-use Rattle.laws.specs.Cases.{Case, acceptance-tells, ascending, case, clear, fine, outcome}
+use Rattle.event.specs.Clock.{momentOf}
+use Rattle.event.specs.declared.clock.Moment.{Moment}
+use Rattle.laws.specs.Cases.{Case, Outcome, acceptance-tells, ascending, case, clear, fine, outcome}
 use Rattle.laws.specs.Bools.{and-left, and-right}
 use Rattle.laws.specs.Lists.{all}
 use Rattle.rows.specs.Order.{distinct, jobs}
 use Rattle.arbiter.specs.Sound.{counters, holds, ranges, sound, soundRow}
 use Rattle.arbiter.specs.declared.table.Table.{Table}
+
+-- a verdict that turned out to be w says what it was judged to say
+pub judged : {v w : Moment} {o : Outcome ℕ} → v ≡ w → momentOf v ≡ o → momentOf w ≡ o
+judged is e = sym (ap momentOf is) ∙ e
 
 -- where case 4 is among the cases and none applies, the job has a row
 pub has-row :

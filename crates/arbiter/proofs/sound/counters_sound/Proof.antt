@@ -1,5 +1,4 @@
 -- The tests are the conditions, joined in their order.
-use Prim.Native.Nat.{_-_, _^_}
 use mathlib.Core.Bool.{and-true}
 use Rattle.laws.specs.Bools.{not-ltb}
 use Rattle.laws.specs.Lists.{all}

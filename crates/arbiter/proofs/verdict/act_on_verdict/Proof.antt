@@ -1,7 +1,7 @@
 -- The cases of a job that acts, then those of the set.
-use mathlib.Core.Path.{refl, sym, ap, _∙_}
-use Rattle.event.specs.Clock.{momentOf}
+use mathlib.Core.Path.{refl}
 use Rattle.laws.specs.Cases.{ascends, outcome-back, outcome-front}
+use Rattle.arbiter.proofs.Verdicts.{judged}
 use Rattle.arbiter.specs.Refusals.{actCases, setCases}
 use borrow.Author.Needs.{needs}
 use Rattle.arbiter.proofs.verdict.act_on_verdict.Statement.{statement}
@@ -23,14 +23,14 @@ returns : tie.Need-returns
 returns c =
     let a = c .before .before .before .before .args in
     outcome-front _ (actCases (a .t) (a .job) (a .tick .0)) (setCases (a .t .resources) (a .s)) _
-    (sym (ap momentOf (c .before .act .given .1)) ∙ c .before .before .before .act-verdict .ensures)
+    (judged (c .before .act .given .1) (c .before .before .before .act-verdict .ensures))
 
 returns-2 : tie.Need-returns-2
 unfolding ascends
 returns-2 c =
     let a = c .before .before .before .before .before .args in
     outcome-back (actCases (a .t) (a .job) (a .tick .0)) (setCases (a .t .resources) (a .s)) _ _ _ refl
-    (sym (ap momentOf (c .before .before .act2 .given .1)) ∙ c .before .before .before .before .act-verdict .ensures)
+    (judged (c .before .before .act2 .given .1) (c .before .before .before .before .act-verdict .ensures))
     (c .set-verdict .ensures)
 
 pub act-on-verdict-spec : {M : Type 1} → statement M

@@ -1,9 +1,8 @@
 -- The cases of the entry, then those of the job that acts.
-use mathlib.Core.Path.{refl, sym, ap, _∙_}
-use Rattle.event.specs.Clock.{momentOf}
+use mathlib.Core.Path.{refl}
 use Rattle.laws.specs.Cases.{ascends, case, outcome-back, outcome-front}
 use Rattle.rows.specs.Line.{rowOf}
-use Rattle.arbiter.proofs.Verdicts.{has-row}
+use Rattle.arbiter.proofs.Verdicts.{has-row, judged}
 use Rattle.arbiter.specs.Refusals.{actorCases, entryCases}
 use borrow.Author.Needs.{needs}
 use Rattle.arbiter.proofs.verdict.act_verdict.Statement.{statement}
@@ -22,21 +21,21 @@ actor-verdict-requires : tie.Need-actor-verdict-requires
 unfolding ascends case
 actor-verdict-requires c κs =
     let a = c .before .before .before .before in
-    let e = sym (ap momentOf (c .before .entry2 .given .1)) ∙ c .before .before .before .enter .ensures in
+    let e = judged (c .before .entry2 .given .1) (c .before .before .before .enter .ensures) in
     (a .pre, has-row (entryCases (a .args .t) (a .args .job) (a .args .tick .0)) (a .args .job) _ _ refl refl e)
 
 returns : tie.Need-returns
 returns c =
     let a = c .before .before .before .before .args in
     outcome-front _ (entryCases (a .t) (a .job) (a .tick .0)) (actorCases (a .t) (rowOf (a .t .rows) (a .job))) _
-    (sym (ap momentOf (c .before .entry .given .1)) ∙ c .before .before .before .enter .ensures)
+    (judged (c .before .entry .given .1) (c .before .before .before .enter .ensures))
 
 returns-2 : tie.Need-returns-2
 unfolding ascends
 returns-2 c =
     let a = c .before .before .before .before .before .args in
     outcome-back (entryCases (a .t) (a .job) (a .tick .0)) (actorCases (a .t) (rowOf (a .t .rows) (a .job))) _ _ _ refl
-    (sym (ap momentOf (c .before .before .entry2 .given .1)) ∙ c .before .before .before .before .enter .ensures)
+    (judged (c .before .before .entry2 .given .1) (c .before .before .before .before .enter .ensures))
     (c .actor-verdict .ensures)
 
 pub act-verdict-spec : {M : Type 1} → statement M

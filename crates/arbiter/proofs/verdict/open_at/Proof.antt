@@ -1,7 +1,7 @@
 -- Case 7, then the cases of the set, then that of the turn.
-use mathlib.Core.Path.{refl, sym, ap, _∙_}
-use Rattle.event.specs.Clock.{momentOf}
+use mathlib.Core.Path.{refl, sym, _∙_}
 use Rattle.laws.specs.Cases.{ascends, outcome-back, outcome-front, outcome-is, outcome-past, this}
+use Rattle.arbiter.proofs.Verdicts.{judged}
 use Rattle.arbiter.specs.Refusals.{setCases, turnCases}
 use borrow.Author.Needs.{needs}
 use Rattle.arbiter.proofs.verdict.open_at.Statement.{statement}
@@ -35,7 +35,7 @@ returns-2 : tie.Need-returns-2
 returns-2 c =
     let a = c .before .before .before .before .before .before .before .args in
     outcome-front _ (setCases (a .t1 .resources) (a .s)) (turnCases (a .t1 .last .0)) _
-    (sym (ap momentOf (c .before .verdict .given .1)) ∙ c .before .before .before .set-verdict .ensures)
+    (judged (c .before .verdict .given .1) (c .before .before .before .set-verdict .ensures))
     ∙ outcome-past _ _ _ _ (sym (c .before .before .before .before .before .live .ensures) ∙ c .before .before .before .before .if1 .left)
 
 returns-3 : tie.Need-returns-3
@@ -43,7 +43,7 @@ unfolding ascends
 returns-3 c =
     let a = c .before .before .before .before .before .before .before .before .before .args in
     outcome-back (setCases (a .t1 .resources) (a .s)) (turnCases (a .t1 .last .0)) _ _ _ refl
-    (sym (ap momentOf (c .before .before .before .verdict2 .given .1)) ∙ c .before .before .before .before .before .set-verdict .ensures)
+    (judged (c .before .before .before .verdict2 .given .1) (c .before .before .before .before .before .set-verdict .ensures))
     (c .turn-verdict .ensures)
     ∙ outcome-past _ _ _ _
     (sym (c .before .before .before .before .before .before .before .live .ensures) ∙ c .before .before .before .before .before .before .if1 .left)

@@ -1,8 +1,7 @@
 -- The cases of the entry, then those of the opening.
-use mathlib.Core.Path.{refl, sym, ap, _∙_}
-use Rattle.event.specs.Clock.{momentOf}
+use mathlib.Core.Path.{refl}
 use Rattle.laws.specs.Cases.{ascends, case, outcome-back, outcome-front}
-use Rattle.arbiter.proofs.Verdicts.{has-row}
+use Rattle.arbiter.proofs.Verdicts.{has-row, judged}
 use Rattle.arbiter.specs.Refusals.{entryCases, openCases}
 use borrow.Author.Needs.{needs}
 use Rattle.arbiter.proofs.verdict.open_verdict.Statement.{statement}
@@ -21,21 +20,21 @@ open-at-requires : tie.Need-open-at-requires
 unfolding ascends case
 open-at-requires c κs =
     let a = c .before .before .before .before .args in
-    let e = sym (ap momentOf (c .before .entry2 .given .1)) ∙ c .before .before .before .enter .ensures in
+    let e = judged (c .before .entry2 .given .1) (c .before .before .before .enter .ensures) in
     has-row (entryCases (a .t) (a .job) (a .tick .0)) (a .job) _ _ refl refl e
 
 returns : tie.Need-returns
 returns c =
     let a = c .before .before .before .before .args in
     outcome-front _ (entryCases (a .t) (a .job) (a .tick .0)) (openCases (a .t) (a .job) (a .s)) _
-    (sym (ap momentOf (c .before .entry .given .1)) ∙ c .before .before .before .enter .ensures)
+    (judged (c .before .entry .given .1) (c .before .before .before .enter .ensures))
 
 returns-2 : tie.Need-returns-2
 unfolding ascends
 returns-2 c =
     let a = c .before .before .before .before .before .args in
     outcome-back (entryCases (a .t) (a .job) (a .tick .0)) (openCases (a .t) (a .job) (a .s)) _ _ _ refl
-    (sym (ap momentOf (c .before .before .entry2 .given .1)) ∙ c .before .before .before .before .enter .ensures)
+    (judged (c .before .before .entry2 .given .1) (c .before .before .before .before .enter .ensures))
     (c .open-at .ensures)
 
 pub open-verdict-spec : {M : Type 1} → statement M

@@ -1,10 +1,9 @@
 -- The cases that a release shares with an ask, then that of its members.
-use mathlib.Core.Path.{refl, sym, ap, _∙_}
-use Rattle.event.specs.Clock.{momentOf}
+use mathlib.Core.Path.{refl}
 use Rattle.laws.specs.Cases.{ascends, case, outcome-back, outcome-front}
 use Rattle.rows.specs.Line.{rowOf}
 use Rattle.rows.specs.Order.{jobs}
-use Rattle.arbiter.proofs.Verdicts.{has-row}
+use Rattle.arbiter.proofs.Verdicts.{has-row, judged}
 use Rattle.arbiter.specs.Refusals.{actOnCases, releaseCases}
 use Prim.Native.Nat.{_<_}
 use borrow.Author.Needs.{needs}
@@ -27,7 +26,7 @@ element-copy-out-row : tie.Need-element-copy-out-row
 unfolding ascends case
 element-copy-out-row c =
     let a = c .before .before .before .before .args in
-    let e = sym (ap momentOf (c .before .act2 .given .1)) ∙ c .before .before .before .act-on-verdict .ensures in
+    let e = judged (c .before .act2 .given .1) (c .before .before .before .act-on-verdict .ensures) in
     let within : a .job < jobs = has-row (actOnCases (a .t1) (a .job) (a .tick .0) (a .s)) (a .job) _ _ refl refl e in
     search needs
 
@@ -38,14 +37,14 @@ returns : tie.Need-returns
 returns c =
     let a = c .before .before .before .before .args in
     outcome-front _ (actOnCases (a .t1) (a .job) (a .tick .0) (a .s)) (releaseCases (rowOf (a .t1 .rows) (a .job)) (a .s)) _
-    (sym (ap momentOf (c .before .act .given .1)) ∙ c .before .before .before .act-on-verdict .ensures)
+    (judged (c .before .act .given .1) (c .before .before .before .act-on-verdict .ensures))
 
 returns-2 : tie.Need-returns-2
 unfolding ascends
 returns-2 c =
     let a = c .before .before .before .before .before .before .args in
     outcome-back (actOnCases (a .t1) (a .job) (a .tick .0) (a .s)) (releaseCases (rowOf (a .t1 .rows) (a .job)) (a .s)) _ _ _ refl
-    (sym (ap momentOf (c .before .before .before .act2 .given .1)) ∙ c .before .before .before .before .before .act-on-verdict .ensures)
+    (judged (c .before .before .before .act2 .given .1) (c .before .before .before .before .before .act-on-verdict .ensures))
     (c .release-set-verdict .ensures)
 
 pub release-verdict-spec : {M : Type 1} → statement M

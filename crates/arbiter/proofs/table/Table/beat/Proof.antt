@@ -1,9 +1,9 @@
 -- A refused verdict leaves the table; an accepted one does what the event means.
 use Prim.Native.Nat.{ℕ}
-use mathlib.Core.Path.{refl, sym, ap, _∙_}
-use Rattle.event.specs.Clock.{momentOf}
+use mathlib.Core.Path.{refl}
 use Rattle.event.specs.declared.said.Event.the-variants.{Beat}
 use Rattle.rows.specs.Order.{jobs}
+use Rattle.arbiter.proofs.Verdicts.{judged}
 use Rattle.arbiter.proofs.Answering.{accepted-answers, refused-answers}
 use Rattle.arbiter.specs.Meaning.{moved, timeAt}
 use borrow.Author.Needs.{needs}
@@ -32,14 +32,14 @@ returns : tie.Need-returns
 returns c =
     let a = c .before .before .before .before .before .before .before .args in
     refused-answers jobs (a .self) (Beat (a .tick)) (timeAt (a .self) (a .tick .0)) _ _
-    (sym (ap momentOf (c .before .before .verdict .given .1)) ∙ c .before .before .before .before .clock-verdict .ensures) (c .refused .ensures)
+    (judged (c .before .before .verdict .given .1) (c .before .before .before .before .clock-verdict .ensures)) (c .refused .ensures)
 
 returns-2 : tie.Need-returns-2
 returns-2 c =
     let a = c .before .before .before .before .before .before .before .before .args in
     accepted-answers jobs (a .self) (Beat (a .tick)) (timeAt (a .self) (a .tick .0)) _ _
     (λ (time : ℕ). moved (a .self) time (a .self .last .0) (a .self .rows))
-    (sym (ap momentOf (c .before .before .before .verdict2 .given .1)) ∙ c .before .before .before .before .before .clock-verdict .ensures) refl
+    (judged (c .before .before .before .verdict2 .given .1) (c .before .before .before .before .before .clock-verdict .ensures)) refl
     (record { says = refl; hands = c .moved .ensures })
 
 pub beat-spec : {M : Type 1} → statement M

@@ -1,12 +1,11 @@
 -- A refused verdict leaves the table and the list; an accepted one does what the event means.
 use Prim.Native.Nat.{ℕ}
-use mathlib.Core.Path.{refl, sym, ap, _∙_}
+use mathlib.Core.Path.{refl, _∙_}
 use borrow.Author.Tests.{le-ltb, lt-ltb}
-use Rattle.event.specs.Clock.{momentOf}
 use Rattle.event.specs.declared.said.Event.the-variants.{Complete}
 use Rattle.laws.specs.Cases.{ascends, case, outcome-is, outcome-past, this}
 use Rattle.arbiter.proofs.Answering.{accepted-answers-into, refused-answers-into}
-use Rattle.arbiter.proofs.Verdicts.{has-row}
+use Rattle.arbiter.proofs.Verdicts.{has-row, judged}
 use Rattle.arbiter.specs.Meaning.{completedRows, moved, timeAt}
 use Rattle.arbiter.specs.Refusals.{actCases}
 use borrow.Author.Needs.{needs}
@@ -40,7 +39,7 @@ completed-requires : tie.Need-completed-requires
 unfolding ascends case
 completed-requires c κs =
     let a = c .before .before .before .before .before .before .before .before .before .args in
-    let v = sym (ap momentOf (c .before .before .verdict2 .given .1)) ∙ c .before .before .before .before .act-verdict .ensures in (
+    let v = judged (c .before .before .verdict2 .given .1) (c .before .before .before .before .act-verdict .ensures) in (
       c .before .before .before .before .before .survey .ensures,
       (has-row (actCases (a .self) (a .job) (a .tick .0)) (a .job) _ _ refl refl v, c .before .before .before .before .before .before .before .if1 .left),
     )
@@ -49,7 +48,7 @@ returns-2 : tie.Need-returns-2
 returns-2 c =
     let a = c .before .before .before .before .before .before .before .before .before .args in
     refused-answers-into (a .self) (Complete (a .job) (a .tick)) (timeAt (a .self) (a .tick .0)) _ _ _
-    (sym (ap momentOf (c .before .before .verdict .given .1)) ∙ c .before .before .before .before .act-verdict .ensures ∙ outcome-past _ _ _ _ (le-ltb _ _ (c .before .before .before .before .before .before .before .if1 .left)))
+    (judged (c .before .before .verdict .given .1) (c .before .before .before .before .act-verdict .ensures) ∙ outcome-past _ _ _ _ (le-ltb _ _ (c .before .before .before .before .before .before .before .if1 .left)))
     (c .refused2 .ensures)
 
 same-length : tie.Need-same-length
@@ -60,7 +59,7 @@ returns-3 c =
     let a = c .before .before .before .before .before .before .before .before .before .before .before .before .args in
     accepted-answers-into (a .self) (Complete (a .job) (a .tick)) (timeAt (a .self) (a .tick .0)) _ _ _ _
     (λ (time : ℕ). moved (a .self) time (a .self .last .0) (completedRows (a .self) (a .job)))
-    (sym (ap momentOf (c .before .before .before .before .before .verdict2 .given .1)) ∙ c .before .before .before .before .before .before .before .act-verdict .ensures ∙ outcome-past _ _ _ _ (le-ltb _ _ (c .before .before .before .before .before .before .before .before .before .before .if1 .left)))
+    (judged (c .before .before .before .before .before .verdict2 .given .1) (c .before .before .before .before .before .before .before .act-verdict .ensures) ∙ outcome-past _ _ _ _ (le-ltb _ _ (c .before .before .before .before .before .before .before .before .before .before .if1 .left)))
     refl (c .before .before .completed .ensures .does) (c .before .before .completed .ensures .lists)
 
 pub complete-spec : {M : Type 1} → statement M

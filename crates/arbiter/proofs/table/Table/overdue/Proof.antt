@@ -4,12 +4,12 @@ use mathlib.Core.List.{List}
 use mathlib.Core.Path.{_≡_, sym, ap, _∙_}
 use borrow.Author.Tests.{le-ltb, lt-ltb}
 use lib.ListN.{length}
-use Rattle.event.specs.Clock.{momentOf}
 use Rattle.event.specs.Refusals.{numberOf}
 use Rattle.event.specs.declared.refusal.Refusal.{Refusal}
 use Rattle.laws.specs.Cases.{acceptance-tells, fine, leaves, outcome, outcome-is, outcome-past, refusal-tells, refused, this}
 use Rattle.laws.specs.Front.{over}
 use Rattle.rows.specs.Line.{Listed}
+use Rattle.arbiter.proofs.Verdicts.{judged}
 use Rattle.arbiter.specs.Meaning.{late, lateAt, overdue, overdueList, timeAt}
 use Rattle.arbiter.specs.Promises.{ToldLate}
 use Rattle.arbiter.specs.Refusals.{overdueCases}
@@ -70,7 +70,7 @@ returns-2 : tie.Need-returns-2
 returns-2 c =
     let a = c .before .before .before .before .before .before .before .before .args in
     refused-late (a .self) (a .tick .0) _ _
-    (sym (ap momentOf (c .before .verdict .given .1)) ∙ c .before .before .before .clock-verdict .ensures ∙ outcome-past _ _ _ _ (le-ltb _ _ (c .before .before .before .before .before .before .if1 .left)))
+    (judged (c .before .verdict .given .1) (c .before .before .before .clock-verdict .ensures) ∙ outcome-past _ _ _ _ (le-ltb _ _ (c .before .before .before .before .before .before .if1 .left)))
 
 same-length : tie.Need-same-length
 same-length c = search needs
@@ -79,7 +79,7 @@ returns-3 : tie.Need-returns-3
 returns-3 c =
     let a = c .before .before .before .before .before .before .before .before .before .before .before .before .args in
     accepted-late (a .self) (a .tick .0) _ _ _ _
-    (sym (ap momentOf (c .before .before .before .before .before .verdict2 .given .1)) ∙ c .before .before .before .before .before .before .before .clock-verdict .ensures ∙ outcome-past _ _ _ _ (le-ltb _ _ (c .before .before .before .before .before .before .before .before .before .before .if1 .left)))
+    (judged (c .before .before .before .before .before .verdict2 .given .1) (c .before .before .before .before .before .before .before .clock-verdict .ensures) ∙ outcome-past _ _ _ _ (le-ltb _ _ (c .before .before .before .before .before .before .before .before .before .before .if1 .left)))
     (c .before .before .listed-late .ensures)
 
 pub overdue-spec : {M : Type 1} → statement M

@@ -1,13 +1,12 @@
 -- A refused verdict leaves the table; an accepted one does what the event means.
 use Prim.Native.Nat.{ℕ}
-use mathlib.Core.Path.{refl, sym, ap, _∙_}
-use Rattle.event.specs.Clock.{momentOf}
+use mathlib.Core.Path.{refl}
 use Rattle.event.specs.declared.said.Event.the-variants.{Release}
 use Rattle.laws.specs.Cases.{ascends, case}
 use Rattle.rows.specs.Line.{rowOf}
 use Rattle.rows.specs.Order.{jobs}
 use Rattle.arbiter.proofs.Answering.{accepted-answers, refused-answers}
-use Rattle.arbiter.proofs.Verdicts.{has-row}
+use Rattle.arbiter.proofs.Verdicts.{has-row, judged}
 use Rattle.arbiter.specs.Meaning.{moved, releasedRow, timeAt}
 use Rattle.arbiter.specs.Refusals.{cases}
 use lib.ListN.{set}
@@ -34,20 +33,20 @@ released-requires : tie.Need-released-requires
 unfolding ascends case
 released-requires c κs =
     let a = c .before .before .before .before .before .before .args in
-    let v = sym (ap momentOf (c .before .verdict2 .given .1)) ∙ c .before .before .before .release-verdict .ensures in
+    let v = judged (c .before .verdict2 .given .1) (c .before .before .before .release-verdict .ensures) in
     has-row (cases jobs (a .self) (Release (a .job) (a .tick) (a .members))) (a .job) _ _ refl refl v
 
 returns : tie.Need-returns
 returns c =
     let a = c .before .before .before .before .before .before .before .args in
     refused-answers jobs (a .self) (Release (a .job) (a .tick) (a .members)) (timeAt (a .self) (a .tick .0)) _ _
-    (sym (ap momentOf (c .before .before .verdict .given .1)) ∙ c .before .before .before .before .release-verdict .ensures) (c .refused .ensures)
+    (judged (c .before .before .verdict .given .1) (c .before .before .before .before .release-verdict .ensures)) (c .refused .ensures)
 
 returns-2 : tie.Need-returns-2
 returns-2 c =
     let a = c .before .before .before .before .before .before .before .args in
     accepted-answers jobs (a .self) (Release (a .job) (a .tick) (a .members)) (timeAt (a .self) (a .tick .0)) _ _ (λ (time : ℕ). moved (a .self) time (a .self .last .0) (set (a .self .rows) (a .job) (releasedRow (rowOf (a .self .rows) (a .job)) (a .members))))
-    (sym (ap momentOf (c .before .before .verdict2 .given .1)) ∙ c .before .before .before .before .release-verdict .ensures) refl (c .released .ensures)
+    (judged (c .before .before .verdict2 .given .1) (c .before .before .before .before .release-verdict .ensures)) refl (c .released .ensures)
 
 pub release-spec : {M : Type 1} → statement M
 release-spec =

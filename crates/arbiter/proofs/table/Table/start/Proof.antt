@@ -6,7 +6,6 @@ use Rattle.laws.specs.Cases.{leaves-is, none, outcome-is, past, this}
 use Rattle.rows.specs.Order.{jobs}
 use Rattle.rows.specs.declared.row.Row.{Row}
 use Rattle.arbiter.specs.Meaning.{startAnswer, startTable}
-use Rattle.arbiter.specs.declared.table.Table.{Table}
 use borrow.Author.Needs.{needs}
 use Rattle.arbiter.proofs.table.Table.start.Statement.{statement}
 use Rattle.arbiter.proofs.table.Table.start.Tie as tie
