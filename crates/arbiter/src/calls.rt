@@ -1,7 +1,6 @@
 // The calls: start, the five events and the two questions. An event takes the table and hands back the next one.
 ghost use Rattle.event.specs.declared.said.Event.the-variants.{Ask, Beat, Complete, Open, Release};
 ghost use Rattle.rows.specs.Order.{jobs};
-ghost use Rattle.arbiter.specs.Meaning.{moved};
 ghost use Rattle.arbiter.specs.Promises.{Answered, AnsweredInto, Refuses, Reports, Started, ToldLate};
 use crate::effect::asked;
 use crate::effect::completed;
