@@ -31,8 +31,12 @@ module _ (n : ℕ) (s : Standing) (r : Row) where
     where
       go : (b : Bool) → meets (cond b (behind s r) s .claims) x ≡ (meets (s .claims) x || (b && meets (r .declared) x))
       go true =
-          rw
-          (meets-comm (union (s .claims) (r .declared)) x, meets-union x (s .claims) (r .declared), meets-comm x (s .claims), meets-comm x (r .declared))
+          rw (
+            meets-comm (union (s .claims) (r .declared)) x,
+            meets-union x (s .claims) (r .declared),
+            meets-comm x (s .claims),
+            meets-comm x (r .declared),
+          )
       go false = sym (or-false (meets (s .claims) x))
 
 module _ (rows : List Row) (n : ℕ) where

@@ -72,7 +72,11 @@ returns c =
     rw same at (listed-line (woke (t .tokens) (t .rows) after) after (marks .result) (lines .result) (lines .ensures)
     (λ j h. marks .ensures j (omega arith)) (c .before .before .before .write-marked .ensures)) in
     record {
-      does = record { says = ap (λ (n : ℕ). fine (Answers.woke n)) (lists .told); hands = c .moved .ensures ∙ ap (moved t (start .args .time) (t .last .0)) same };
+      does = record {
+        says = ap (λ (n : ℕ). fine (Answers.woke n)) (lists .told);
+        hands = c .moved .ensures
+            ∙ ap (moved t (start .args .time) (t .last .0)) same;
+      };
       lists = lists .left;
     }
 

@@ -46,7 +46,23 @@ both-requires-5 c κs = search needs
 
 returns : tie.Need-returns
 unfolding all
-returns c = rw (c .both5 .ensures, c .before .before .before .before .either3 .ensures, c .before .both4 .ensures, c .before .before .either4 .ensures, c .before .before .before .before .before .before .both3 .ensures, c .before .before .before .before .before .before .before .meets2 .ensures, c .before .before .before .before .before .before .before .before .both2 .ensures, c .before .before .before .before .before .before .before .before .before .either2 .ensures, c .before .before .before .before .before .before .before .before .before .before .meets .ensures, c .before .before .before .before .before .before .before .before .before .before .before .before .both .ensures, c .before .before .before .before .before .before .before .before .before .before .before .before .before .either .ensures, c .before .before .before .before .before .before .before .before .before .before .before .before .before .before .before .waiting .ensures, c .before .before .before .before .before .before .before .before .before .before .before .before .before .before .before .before .before .before .token .ensures, and-true)
+returns c =
+    rw (
+      c .both5 .ensures,
+      c .before .before .before .before .either3 .ensures,
+      c .before .both4 .ensures,
+      c .before .before .either4 .ensures,
+      c .before .before .before .before .before .before .both3 .ensures,
+      c .before .before .before .before .before .before .before .meets2 .ensures,
+      c .before .before .before .before .before .before .before .before .both2 .ensures,
+      c .before .before .before .before .before .before .before .before .before .either2 .ensures,
+      c .before .before .before .before .before .before .before .before .before .before .meets .ensures,
+      c .before .before .before .before .before .before .before .before .before .before .before .before .both .ensures,
+      c .before .before .before .before .before .before .before .before .before .before .before .before .before .either .ensures,
+      c .before .before .before .before .before .before .before .before .before .before .before .before .before .before .before .waiting .ensures,
+      c .before .before .before .before .before .before .before .before .before .before .before .before .before .before .before .before .before .before .token .ensures,
+      and-true,
+    )
 
 pub claim-sound-spec : {M : Type 1} → statement M
 claim-sound-spec =

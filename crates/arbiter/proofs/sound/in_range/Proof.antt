@@ -22,7 +22,15 @@ both-requires-5 c κs = search needs
 
 returns : tie.Need-returns
 unfolding all
-returns c = rw (c .both5 .ensures, c .before .both4 .ensures, c .before .before .both3 .ensures, c .before .before .before .both2 .ensures, c .before .before .before .before .both .ensures, and-true)
+returns c =
+    rw (
+      c .both5 .ensures,
+      c .before .both4 .ensures,
+      c .before .before .both3 .ensures,
+      c .before .before .before .both2 .ensures,
+      c .before .before .before .before .both .ensures,
+      and-true,
+    )
 
 pub in-range-spec : {M : Type 1} → statement M
 in-range-spec =

@@ -24,7 +24,16 @@ both-requires-3 c κs = search needs
 
 returns : tie.Need-returns
 unfolding sound
-returns c = rw (c .both3 .ensures, c .before .rows-sound .ensures, c .before .before .both2 .ensures, c .before .before .before .both .ensures, c .before .before .before .before .counters-sound .ensures, c .before .before .before .before .before .in-range .ensures, c .before .before .before .before .before .before .before .pre .apart)
+returns c =
+    rw (
+      c .both3 .ensures,
+      c .before .rows-sound .ensures,
+      c .before .before .both2 .ensures,
+      c .before .before .before .both .ensures,
+      c .before .before .before .before .counters-sound .ensures,
+      c .before .before .before .before .before .in-range .ensures,
+      c .before .before .before .before .before .before .before .pre .apart,
+    )
 
 pub is-sound-spec : {M : Type 1} → statement M
 is-sound-spec =

@@ -29,7 +29,15 @@ both-requires : tie.Need-both-requires
 both-requires c κs = search needs
 
 returns-2 : tie.Need-returns-2
-returns-2 c = let own = ownConditions (c .before .before .before .before .before .args .b .resources) (c .before .before .before .before .before .args .b .last .0) (c .before .before .before .before .before .args .r) in let claim = claimConditions (c .before .before .before .before .before .args .b .tokens) (c .before .before .before .before .before .args .b .time) (c .before .before .before .before .before .args .r) (c .before .before .before .before .before .args .s .ahead) (meets (c .before .before .before .before .before .args .s .claims)) in c .both .ensures ∙ ap₂ (λ (x y : Bool). x && y) (c .before .before .own-sound .ensures) (c .before .claim-sound .ensures) ∙ sym (all-append (λ b. b) own claim) ∙ ap (λ (x : Bool). holds (cond x (own ++ claim) (idleRow (c .before .before .before .before .before .args .r)))) (sym (sym (c .before .before .before .before .live .ensures) ∙ not-false _ (c .before .before .before .if1 .left)))
+returns-2 c =
+    let a = c .before .before .before .before .before .args in
+    let own = ownConditions (a .b .resources) (a .b .last .0) (a .r) in
+    let claim = claimConditions (a .b .tokens) (a .b .time) (a .r) (a .s .ahead) (meets (a .s .claims)) in
+    c .both .ensures
+    ∙ ap₂ (λ (x y : Bool). x && y) (c .before .before .own-sound .ensures) (c .before .claim-sound .ensures)
+    ∙ sym (all-append (λ b. b) own claim)
+    ∙ ap (λ (x : Bool). holds (cond x (own ++ claim) (idleRow (a .r))))
+    (sym (sym (c .before .before .before .before .live .ensures) ∙ not-false _ (c .before .before .before .if1 .left)))
 
 pub row-sound-spec : {M : Type 1} → statement M
 row-sound-spec =

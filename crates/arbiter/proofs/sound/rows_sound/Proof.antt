@@ -74,7 +74,9 @@ row-sound-requires : tie.Need-row-sound-requires Inv-loop μ-loop
 row-sound-requires c κs = search needs
 
 returns : tie.Need-returns Inv-loop μ-loop
-returns c = sym (sym (c .before .before .before .before .before .loop .inv .2) ∙ row-is (c .before) ∙ rw (not-true (c .before .row-sound .result) (c .if1 .taken)))
+returns c =
+    sym (sym (c .before .before .before .before .before .loop .inv .2) ∙ row-is (c .before)
+    ∙ rw (not-true (c .before .row-sound .result) (c .if1 .taken)))
 
 add-i : tie.Need-add-i Inv-loop μ-loop
 add-i c = search needs
@@ -83,11 +85,18 @@ loop-less : tie.Need-loop-less Inv-loop μ-loop
 loop-less c = omega arith
 
 loop-again : tie.Need-loop-again Inv-loop μ-loop
-loop-again c = (omega arith, c .before .before .before .before .before .loop .inv .1, sym (row-is (c .before) ∙ rw (not-false (c .before .row-sound .result) (c .if1 .left))) ∙ c .before .before .before .before .before .loop .inv .2)
+loop-again c = (
+  omega arith,
+  c .before .before .before .before .before .loop .inv .1,
+  sym (row-is (c .before) ∙ rw (not-false (c .before .row-sound .result) (c .if1 .left)))
+      ∙ c .before .before .before .before .before .loop .inv .2,
+)
 
 returns-2 : tie.Need-returns-2 Inv-loop μ-loop
 unfolding all
-returns-2 c = rw (drop-of-length-le (c .before .before .before .before .before .args .t .rows) {i = c .before .loop .i} (omega (arith, c .before .loop .inv .1))) at (c .before .loop .inv .2)
+returns-2 c =
+    rw (drop-of-length-le (c .before .before .before .before .before .args .t .rows) {i = c .before .loop .i}
+    (omega (arith, c .before .loop .inv .1))) at (c .before .loop .inv .2)
 
 pub rows-sound-spec : {M : Type 1} → statement M
 rows-sound-spec =

@@ -42,13 +42,23 @@ token-requires : tie.Need-token-requires
 token-requires c κs = search needs
 
 returns-2 : tie.Need-returns-2
-returns-2 c = outcome-is _ (past (ap not (sym (c .before .before .before .live .ensures)) ∙ c .before .before .if1 .left) (this (ap not (sym (has-token (c .before))) ∙ c .if2 .taken)))
+returns-2 c =
+    outcome-is _ (past (ap not (sym (c .before .before .before .live .ensures)) ∙ c .before .before .if1 .left)
+    (this (ap not (sym (has-token (c .before))) ∙ c .if2 .taken)))
 
 returns-3 : tie.Need-returns-3
-returns-3 c = outcome-is _ (past (ap not (sym (c .before .before .before .before .before .live .ensures)) ∙ c .before .before .before .before .if1 .left) (past (ap not (sym (has-token (c .before .before .before))) ∙ c .before .before .if2 .left) (this (lt-ltb _ _ (c .if3 .taken)))))
+returns-3 c =
+    outcome-is _ (past (ap not (sym (c .before .before .before .before .before .live .ensures))
+    ∙ c .before .before .before .before .if1 .left)
+    (past (ap not (sym (has-token (c .before .before .before))) ∙ c .before .before .if2 .left)
+    (this (lt-ltb _ _ (c .if3 .taken)))))
 
 returns-4 : tie.Need-returns-4
-returns-4 c = outcome-is _ (past (ap not (sym (c .before .before .before .before .before .live .ensures)) ∙ c .before .before .before .before .if1 .left) (past (ap not (sym (has-token (c .before .before .before))) ∙ c .before .before .if2 .left) (past (le-ltb _ _ (c .if3 .left)) none)))
+returns-4 c =
+    outcome-is _ (past (ap not (sym (c .before .before .before .before .before .live .ensures))
+    ∙ c .before .before .before .before .if1 .left)
+    (past (ap not (sym (has-token (c .before .before .before))) ∙ c .before .before .if2 .left)
+    (past (le-ltb _ _ (c .if3 .left)) none)))
 
 pub actor-verdict-spec : {M : Type 1} → statement M
 actor-verdict-spec =

@@ -16,10 +16,14 @@ meets-requires : tie.Need-meets-requires
 meets-requires c κs = search needs
 
 returns-2 : tie.Need-returns-2
-returns-2 c = outcome-is _ (past (ap not (sym (c .before .before .before .inside .ensures)) ∙ c .before .before .if1 .left) (this (sym (c .before .meets .ensures) ∙ c .if2 .taken)))
+returns-2 c =
+    outcome-is _ (past (ap not (sym (c .before .before .before .inside .ensures)) ∙ c .before .before .if1 .left)
+    (this (sym (c .before .meets .ensures) ∙ c .if2 .taken)))
 
 returns-3 : tie.Need-returns-3
-returns-3 c = outcome-is _ (past (ap not (sym (c .before .before .before .inside .ensures)) ∙ c .before .before .if1 .left) (past (sym (c .before .meets .ensures) ∙ c .if2 .left) none))
+returns-3 c =
+    outcome-is _ (past (ap not (sym (c .before .before .before .inside .ensures)) ∙ c .before .before .if1 .left)
+    (past (sym (c .before .meets .ensures) ∙ c .if2 .left) none))
 
 pub ask-set-verdict-spec : {M : Type 1} → statement M
 ask-set-verdict-spec =

@@ -25,7 +25,9 @@ forward-requires c κs = search needs
 
 returns-3 : tie.Need-returns-3
 unfolding forward
-returns-3 c = c .forward .ensures ∙ outcome-past _ _ _ _ (lt-leb _ _ (c .before .if2 .left)) ∙ outcome-past _ _ _ _ (ap not (sym (c .before .before .before .is-sound .ensures)) ∙ c .before .before .if1 .left)
+returns-3 c =
+    c .forward .ensures ∙ outcome-past _ _ _ _ (lt-leb _ _ (c .before .if2 .left))
+    ∙ outcome-past _ _ _ _ (ap not (sym (c .before .before .before .is-sound .ensures)) ∙ c .before .before .if1 .left)
 
 pub enter-spec : {M : Type 1} → statement M
 enter-spec =

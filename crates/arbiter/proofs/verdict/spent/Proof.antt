@@ -21,13 +21,18 @@ earlier-requires : tie.Need-earlier-requires
 earlier-requires c κs = search needs
 
 returns : tie.Need-returns
-returns c = let less = ltb-true (c .before .before .args .last .0) (2 ^ 63 - 1) (sym (c .before .earlier .ensures) ∙ c .if1 .taken) in sym (ne-eqb (c .before .before .args .last .0) (2 ^ 63 - 1) (λ q. omega (arith, q, less)))
+returns c =
+    let less = ltb-true (c .before .before .args .last .0) (2 ^ 63 - 1) (sym (c .before .earlier .ensures) ∙ c .if1 .taken) in
+    sym (ne-eqb (c .before .before .args .last .0) (2 ^ 63 - 1) (λ q. omega (arith, q, less)))
 
 earlier-requires-2 : tie.Need-earlier-requires-2
 earlier-requires-2 c κs = search needs
 
 returns-2 : tie.Need-returns-2
-returns-2 c = ap not (c .earlier2 .ensures) ∙ not-higher (c .before .before .before .args .last .0) (2 ^ 63 - 1) (ltb-false (c .before .before .before .args .last .0) (2 ^ 63 - 1) (sym (c .before .before .earlier .ensures) ∙ c .before .if1 .left))
+returns-2 c =
+    ap not (c .earlier2 .ensures) ∙ not-higher (c .before .before .before .args .last .0) (2 ^ 63 - 1)
+    (ltb-false (c .before .before .before .args .last .0) (2 ^ 63 - 1) (sym (c .before .before .earlier .ensures)
+    ∙ c .before .if1 .left))
 
 pub spent-spec : {M : Type 1} → statement M
 spent-spec = tie.close (tie.spec earlier-requires returns earlier-requires-2 returns-2)

@@ -15,7 +15,11 @@ returns : tie.Need-returns
 returns c = rw (sym (c .before .live .ensures) ∙ not-true (c .before .live .result) (c .if1 .taken)) (c .if1 .taken)
 
 returns-2 : tie.Need-returns-2
-returns-2 c = rw (sym (c .before .before .live .ensures) ∙ not-false (c .before .before .live .result) (c .before .if1 .left), sym (c .sharing .ensures))
+returns-2 c =
+    rw (
+      sym (c .before .before .live .ensures) ∙ not-false (c .before .before .live .result) (c .before .if1 .left),
+      sym (c .sharing .ensures),
+    )
 
 pub alone-spec : {M : Type 1} → statement M
 alone-spec = tie.close (tie.spec live-requires sharing-requires returns returns-2)

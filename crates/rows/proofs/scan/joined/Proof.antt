@@ -18,7 +18,12 @@ union-requires : tie.Need-union-requires
 union-requires c κs = search needs
 
 returns-2 : tie.Need-returns-2
-returns-2 c = rw (sym (c .before .before .before .before2 .ensures) ∙ not-false (c .before .before .before .before2 .result) (c .before .before .if1 .left), c .union .ensures)
+returns-2 c =
+    rw (
+      sym (c .before .before .before .before2 .ensures)
+          ∙ not-false (c .before .before .before .before2 .result) (c .before .before .if1 .left),
+      c .union .ensures,
+    )
 
 pub joined-spec : {M : Type 1} → statement M
 joined-spec = tie.close (tie.spec before-requires returns add-t6 union-requires returns-2)

@@ -17,8 +17,11 @@ returns c =
 
 returns-2 : tie.Need-returns-2
 returns-2 c =
-    rw
-    (sym (c .before .before .before .before .live .ensures) ∙ c .before .before .before .if1 .taken, sym (c .before .before .token .ensures), c .before .if2 .left)
+    rw (
+      sym (c .before .before .before .before .live .ensures) ∙ c .before .before .before .if1 .taken,
+      sym (c .before .before .token .ensures),
+      c .before .if2 .left,
+    )
 
 returns-3 : tie.Need-returns-3
 returns-3 c = rw (sym (c .before .live .ensures) ∙ c .if1 .left) (c .if1 .left)

@@ -19,7 +19,8 @@ abbrev Woke : ℕ → List Row → List Row → ℕ → Bool → Type 0
 Woke T before after j b = b ≡ woke T before after j
 
 abbrev Inv-loop : tie.InvT-loop
-Inv-loop tokens before after standings standings-after marks₀ i₀ marks i = (i ≤ jobs) × (length marks ≡ jobs) × Filled (Woke tokens before after) false marks i
+Inv-loop tokens before after standings standings-after marks₀ i₀ marks i =
+    (i ≤ jobs) × (length marks ≡ jobs) × Filled (Woke tokens before after) false marks i
 
 abbrev μ-loop : tie.MeasureT-loop
 μ-loop tokens before after standings standings-after marks₀ i₀ marks i = jobs - i

@@ -45,7 +45,9 @@ returns c =
 returns-2 : tie.Need-returns-2
 returns-2 c =
     let a = c .before .before .before .before .before .before .before .args in
-    accepted-answers jobs (a .self) (Ask (a .job) (a .tick) (a .wanted)) (timeAt (a .self) (a .tick .0)) _ _ (λ (time : ℕ). moved (a .self) time (a .self .last .0) (set (a .self .rows) (a .job) (askedRow (a .self) (rowOf (a .self .rows) (a .job)) time (a .wanted))))
+    accepted-answers jobs (a .self) (Ask (a .job) (a .tick) (a .wanted)) (timeAt (a .self) (a .tick .0)) _ _
+    (λ (time : ℕ). moved (a .self) time (a .self .last .0)
+    (set (a .self .rows) (a .job) (askedRow (a .self) (rowOf (a .self .rows) (a .job)) time (a .wanted))))
     (judged (c .before .before .verdict2 .given .1) (c .before .before .before .before .ask-verdict .ensures)) refl (c .asked .ensures)
 
 pub ask-spec : {M : Type 1} → statement M

@@ -18,7 +18,8 @@ refused-requires c κs = search needs
 returns : tie.Need-returns
 returns c =
     let a = c .before .before .before .args in
-    refused-answers-into (a .self) (Complete (a .job) (a .tick)) (timeAt (a .self) (a .tick .0)) _ _ _ (outcome-is _ (this (lt-ltb _ _ (c .before .if1 .taken)))) (c .refused .ensures)
+    refused-answers-into (a .self) (Complete (a .job) (a .tick)) (timeAt (a .self) (a .tick .0)) _ _ _
+    (outcome-is _ (this (lt-ltb _ _ (c .before .if1 .taken)))) (c .refused .ensures)
 
 survey-requires : tie.Need-survey-requires
 survey-requires c κs = search needs
@@ -41,14 +42,18 @@ completed-requires c κs =
     let a = c .before .before .before .before .before .before .before .before .before .args in
     let v = judged (c .before .before .verdict2 .given .1) (c .before .before .before .before .act-verdict .ensures) in (
       c .before .before .before .before .before .survey .ensures,
-      (has-row (actCases (a .self) (a .job) (a .tick .0)) (a .job) _ _ refl refl v, c .before .before .before .before .before .before .before .if1 .left),
+      (
+        has-row (actCases (a .self) (a .job) (a .tick .0)) (a .job) _ _ refl refl v,
+        c .before .before .before .before .before .before .before .if1 .left,
+      ),
     )
 
 returns-2 : tie.Need-returns-2
 returns-2 c =
     let a = c .before .before .before .before .before .before .before .before .before .args in
     refused-answers-into (a .self) (Complete (a .job) (a .tick)) (timeAt (a .self) (a .tick .0)) _ _ _
-    (judged (c .before .before .verdict .given .1) (c .before .before .before .before .act-verdict .ensures) ∙ outcome-past _ _ _ _ (le-ltb _ _ (c .before .before .before .before .before .before .before .if1 .left)))
+    (judged (c .before .before .verdict .given .1) (c .before .before .before .before .act-verdict .ensures)
+    ∙ outcome-past _ _ _ _ (le-ltb _ _ (c .before .before .before .before .before .before .before .if1 .left)))
     (c .refused2 .ensures)
 
 same-length : tie.Need-same-length
@@ -59,7 +64,10 @@ returns-3 c =
     let a = c .before .before .before .before .before .before .before .before .before .before .before .before .args in
     accepted-answers-into (a .self) (Complete (a .job) (a .tick)) (timeAt (a .self) (a .tick .0)) _ _ _ _
     (λ (time : ℕ). moved (a .self) time (a .self .last .0) (completedRows (a .self) (a .job)))
-    (judged (c .before .before .before .before .before .verdict2 .given .1) (c .before .before .before .before .before .before .before .act-verdict .ensures) ∙ outcome-past _ _ _ _ (le-ltb _ _ (c .before .before .before .before .before .before .before .before .before .before .if1 .left)))
+    (judged (c .before .before .before .before .before .verdict2 .given .1)
+    (c .before .before .before .before .before .before .before .act-verdict .ensures)
+    ∙ outcome-past _ _ _ _
+    (le-ltb _ _ (c .before .before .before .before .before .before .before .before .before .before .if1 .left)))
     refl (c .before .before .completed .ensures .does) (c .before .before .completed .ensures .lists)
 
 pub complete-spec : {M : Type 1} → statement M

@@ -33,8 +33,10 @@ opened-requires : tie.Need-opened-requires
 unfolding ascends case
 opened-requires c κs =
     let a = c .before .before .before .before .before .before .args in
-    let v = judged (c .before .verdict2 .given .1) (c .before .before .before .open-verdict .ensures) in
-    (has-row (cases jobs (a .self) (Open (a .job) (a .tick) (a .declared))) (a .job) _ _ refl refl v, last-in-range (cases jobs (a .self) (Open (a .job) (a .tick) (a .declared))) (a .self) _ _ refl refl v)
+    let v = judged (c .before .verdict2 .given .1) (c .before .before .before .open-verdict .ensures) in (
+      has-row (cases jobs (a .self) (Open (a .job) (a .tick) (a .declared))) (a .job) _ _ refl refl v,
+      last-in-range (cases jobs (a .self) (Open (a .job) (a .tick) (a .declared))) (a .self) _ _ refl refl v,
+    )
 
 returns : tie.Need-returns
 returns c =
@@ -45,7 +47,9 @@ returns c =
 returns-2 : tie.Need-returns-2
 returns-2 c =
     let a = c .before .before .before .before .before .before .before .args in
-    accepted-answers jobs (a .self) (Open (a .job) (a .tick) (a .declared)) (timeAt (a .self) (a .tick .0)) _ _ (λ (time : ℕ). moved (a .self) time (a .self .last .0 + 1) (set (a .self .rows) (a .job) (openedRow (a .self) time (a .declared))))
+    accepted-answers jobs (a .self) (Open (a .job) (a .tick) (a .declared)) (timeAt (a .self) (a .tick .0)) _ _
+    (λ (time : ℕ). moved (a .self) time (a .self .last .0 + 1)
+    (set (a .self .rows) (a .job) (openedRow (a .self) time (a .declared))))
     (judged (c .before .before .verdict2 .given .1) (c .before .before .before .before .open-verdict .ensures)) refl (c .opened .ensures)
 
 pub open-spec : {M : Type 1} → statement M

@@ -64,13 +64,17 @@ enum-known-verdict-2 : tie.Need-enum-known-verdict-2
 enum-known-verdict-2 c = search needs
 
 listed-late-requires : tie.Need-listed-late-requires
-listed-late-requires c κs = (c .before .before .before .before .before .survey .ensures, c .before .before .before .before .before .before .before .if1 .left)
+listed-late-requires c κs = (
+  c .before .before .before .before .before .survey .ensures,
+  c .before .before .before .before .before .before .before .if1 .left,
+)
 
 returns-2 : tie.Need-returns-2
 returns-2 c =
     let a = c .before .before .before .before .before .before .before .before .args in
     refused-late (a .self) (a .tick .0) _ _
-    (judged (c .before .verdict .given .1) (c .before .before .before .clock-verdict .ensures) ∙ outcome-past _ _ _ _ (le-ltb _ _ (c .before .before .before .before .before .before .if1 .left)))
+    (judged (c .before .verdict .given .1) (c .before .before .before .clock-verdict .ensures)
+    ∙ outcome-past _ _ _ _ (le-ltb _ _ (c .before .before .before .before .before .before .if1 .left)))
 
 same-length : tie.Need-same-length
 same-length c = search needs
@@ -79,7 +83,10 @@ returns-3 : tie.Need-returns-3
 returns-3 c =
     let a = c .before .before .before .before .before .before .before .before .before .before .before .before .args in
     accepted-late (a .self) (a .tick .0) _ _ _ _
-    (judged (c .before .before .before .before .before .verdict2 .given .1) (c .before .before .before .before .before .before .before .clock-verdict .ensures) ∙ outcome-past _ _ _ _ (le-ltb _ _ (c .before .before .before .before .before .before .before .before .before .before .if1 .left)))
+    (judged (c .before .before .before .before .before .verdict2 .given .1)
+    (c .before .before .before .before .before .before .before .clock-verdict .ensures)
+    ∙ outcome-past _ _ _ _
+    (le-ltb _ _ (c .before .before .before .before .before .before .before .before .before .before .if1 .left)))
     (c .before .before .listed-late .ensures)
 
 pub overdue-spec : {M : Type 1} → statement M

@@ -45,7 +45,9 @@ returns c =
 returns-2 : tie.Need-returns-2
 returns-2 c =
     let a = c .before .before .before .before .before .before .before .args in
-    accepted-answers jobs (a .self) (Release (a .job) (a .tick) (a .members)) (timeAt (a .self) (a .tick .0)) _ _ (λ (time : ℕ). moved (a .self) time (a .self .last .0) (set (a .self .rows) (a .job) (releasedRow (rowOf (a .self .rows) (a .job)) (a .members))))
+    accepted-answers jobs (a .self) (Release (a .job) (a .tick) (a .members)) (timeAt (a .self) (a .tick .0)) _ _
+    (λ (time : ℕ). moved (a .self) time (a .self .last .0)
+    (set (a .self .rows) (a .job) (releasedRow (rowOf (a .self .rows) (a .job)) (a .members))))
     (judged (c .before .before .verdict2 .given .1) (c .before .before .before .before .release-verdict .ensures)) refl (c .released .ensures)
 
 pub release-spec : {M : Type 1} → statement M

@@ -50,7 +50,8 @@ returns-4 c =
     ap fine (c .reported .ensures)
     ∙ outcome-is _
     (past (ap not (sym (c .before .before .before .before .before .before .is-sound .ensures)) ∙ c .before .before .before .before .before .if1 .left)
-    (past (lt-leb _ _ (c .before .before .before .before .if2 .left)) (past (ap not (sym (c .before .before .live .ensures)) ∙ c .before .if3 .left) none)))
+    (past (lt-leb _ _ (c .before .before .before .before .if2 .left))
+    (past (ap not (sym (c .before .before .live .ensures)) ∙ c .before .if3 .left) none)))
 
 pub report-spec : {M : Type 1} → statement M
 report-spec =
