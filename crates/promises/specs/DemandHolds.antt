@@ -72,7 +72,8 @@ module _ (T R begin limit : ℕ) (past : List Event) (j : ℕ) (tick : Tick) (s 
   behind : ahead (opened-table .rows) turn ≡ count live (first-table .rows)
   behind = ahead-opened first-table along-past j tick s open-ok
 
-  bears : Bears T turn j table
+  -- the request's row is its own, in a table of this history
+  pub bears : Bears T turn j table
   bears = record { along = along-run along later; some = omega arith; turn = given .lives }
 
   -- the request declares at any time what it was opened with

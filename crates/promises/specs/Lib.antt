@@ -21,4 +21,5 @@ pub mod KeptWoken
 pub mod Sound
 pub mod SoundFacts
 pub mod SoundTokens
+pub mod Trial
 pub mod Worked

@@ -1,0 +1,220 @@
+-- An arbiter on trial: what an event leads to, whom it lists as woken and what is reported, said once more in a few lines
+-- and held to demand 3, in the figures of one history and over any history. Wrong arbiters are tried in its place.
+use Prim.Native.Nat.{ℕ, zero, suc, _+_, _-_}
+use mathlib.Core.Bool.{Bool, true, false, cond, _&&_}
+use mathlib.Core.List.{List, [], _∷_, _++_}
+use mathlib.Core.Path.{_≡_, refl, sym, ap, subst, _∙_}
+use lib.Dec.{eqb, leb, ltb, eqb·suc-zero}
+use lib.ListN.{replicate}
+use Rattle.event.specs.declared.clock.Tick.{Tick}
+use Rattle.event.specs.declared.said.Event.{Event}
+use Rattle.event.specs.declared.said.Event.the-variants.{Open, Complete}
+use Rattle.laws.specs.Bools.{bit}
+use Rattle.laws.specs.Cases.{Outcome, fine, acceptance-tells, first, keepUnless, leaves, outcome, unless}
+use Rattle.laws.specs.Lists.{all, count}
+use Rattle.laws.specs.Sets.{below, inside, meet, meets, union}
+use Rattle.rows.specs.Line.{from, keep, lined, place}
+use Rattle.rows.specs.Order.{ahead, claims, distinct, idle, inWay, jobs, live, token, waiting}
+use Rattle.rows.specs.Sweep.{settled, woken}
+use Rattle.rows.specs.declared.row.Row.{Row}
+use Rattle.arbiter.specs.Meaning.{accepted, answer, next, report, reported, run, startTable, told, wakes}
+use Rattle.arbiter.specs.Refusals.{cases, reportCases}
+use Rattle.arbiter.specs.Sound.{sound}
+use Rattle.arbiter.specs.declared.table.Report.{Report}
+use Rattle.arbiter.specs.declared.table.Table.{Table}
+use Rattle.promises.specs.Demand.{Demand3, Supposed, n, now, opened, p}
+use Rattle.promises.specs.DemandExample.{at, past, since, until}
+use Rattle.promises.specs.DemandHolds.{bears, demand3}
+use Rattle.promises.specs.History.{isFine, leavings, lists}
+use Rattle.promises.specs.Sound.{rowIn}
+
+-- ---- The arbiter on trial
+
+-- no case refuses the event
+abbrev heeds : Table → Event → Bool
+heeds t e = eqb (first (cases jobs t e)) 0
+
+-- the table that an event leads to
+abbrev pub leads : Table → Event → Table
+leads t e = cond (heeds t e) (accepted t e) t
+
+-- the jobs that it lists as woken
+abbrev pub rouses : Table → Event → List ℕ
+rouses t e = cond (heeds t e) (wakes t e) []
+
+-- how many live requests were opened before a row's
+abbrev stands : Table → Row → ℕ
+stands t r = count (λ x. live x && ltb (x .turn .0) (r .turn .0)) (t .rows)
+
+-- what is reported of a job's request
+abbrev pub reports : Table → ℕ → Outcome Report
+reports t j =
+    let r = rowIn t j in
+    outcome (reportCases t j)
+    (record {
+      turn = r .turn;
+      token = ltb (stands t r) (t .tokens);
+      waiting = waiting (t .tokens) (t .rows) r;
+      ahead = stands t r;
+      «in_way» = inWay (t .rows) (r .turn .0) (r .declared);
+    })
+
+-- one event after another
+unfoldable pub course : Table → List Event → Table
+course t [] = t
+course t (e ∷ es) = course (leads t e) es
+
+-- ---- In figures: the history of DemandExample, in which job 6 opens behind five, with four tokens
+
+-- its tables, written out: job 0 is idle, then come these, and all others are idle
+abbrev table : ℕ → List Row → Table
+table time rows =
+    record {
+      tokens = 4;
+      resources = 6;
+      limit = 50;
+      time = time;
+      last = record { 0 = 7 };
+      rows = idle ∷ rows ++ replicate (jobs - 8) idle;
+    }
+
+-- a row that holds nothing
+abbrev row : ℕ → ℕ → ℕ → ℕ → Row
+row turn declared asked since =
+    record { turn = record { 0 = turn }; declared = declared; held = 0; asked = asked; since = since }
+
+-- when 7 has opened
+abbrev seven : Table
+seven =
+    table 4294967290
+    (row 1 3 0 0
+    ∷ row 2 6 0 0
+    ∷ row 3 2 0 0
+    ∷ row 4 8 0 0
+    ∷ row 5 16 0 4294967285
+    ∷ row 6 37 0 4294967286
+    ∷ row 7 1 0 4294967290
+    ∷ [])
+
+-- when 6 has its token
+abbrev four : Table
+four = table 4294967300 (row 1 3 0 0 ∷ row 2 6 0 0 ∷ row 3 2 0 0 ∷ idle ∷ idle ∷ row 6 37 0 0 ∷ row 7 1 0 4294967290 ∷ [])
+
+-- when 1 has completed, and 3 and 6 wait for what they asked
+abbrev three : Table
+three =
+    table 4294967302
+    (idle ∷ row 2 6 0 0 ∷ row 3 2 2 4294967301 ∷ idle ∷ idle ∷ row 6 37 5 4294967301 ∷ row 7 1 0 0 ∷ [])
+
+-- a report of job 6, whose turn is 6
+abbrev six : Bool → Bool → ℕ → ℕ → Outcome Report
+six token waiting ahead way =
+    fine (record { turn = record { 0 = 6 }; token = token; waiting = waiting; ahead = ahead; «in_way» = way })
+
+pub record Figures : Type 0 where
+  -- two completions are due; a refused one does not count, and after one there is no token
+  pub refused-one : reports (leads seven (Complete 5 (at 1))) 6 ≡ six false true 5 2
+  pub one-gone : reports (leads seven (Complete 4 (at 2))) 6 ≡ six false true 4 2
+  pub two-gone : reports four 6 ≡ six true false 3 2
+  -- one of the two in the way has completed; with the other the job is listed, and its set is held whole
+  pub three-gone : reports three 6 ≡ six true true 2 1
+  pub listed : rouses three (Complete 2 (at 7)) ≡ 3 ∷ 6 ∷ []
+  pub held : rowIn (leads three (Complete 2 (at 7))) 6 .held ≡ 5
+
+pub figures : Figures
+unfolding outcome first sound all distinct count ahead inWay below inside meet meets settled union woken keep lined from place
+figures = record { refused-one = refl; one-gone = refl; two-gone = refl; three-gone = refl; listed = refl; held = refl }
+
+-- these are the tables of that history, after so many of its events
+abbrev after : List Event → Table
+after es = course (startTable 4 6 4294967280 50) (past ++ Open 6 (at 4294967286) 37 ∷ es)
+
+pub written-out : (after (Open 7 (at 4294967290) 1 ∷ []) ≡ seven) × (after until ≡ four) × (after (until ++ since) ≡ three)
+unfolding course startTable leaves first sound all distinct count ahead inWay below inside meet meets settled union
+written-out = (refl, refl, refl)
+
+-- ---- Over any history: it does what the meanings say, so demand 3 holds of it
+
+leads-next : (t : Table) (e : Event) → leads t e ≡ next jobs t e
+unfolding next leaves
+leads-next t e = go (first (cases jobs t e))
+  where
+    go : (k : ℕ) → cond (eqb k 0) (accepted t e) t ≡ keepUnless k t (accepted t e)
+    go zero = refl
+    go (suc k) = ap (λ (b : Bool). cond b (accepted t e) t) (eqb·suc-zero k)
+
+rouses-lists : (t : Table) (e : Event) → rouses t e ≡ lists t e
+unfolding answer outcome
+rouses-lists t e = go (first (cases jobs t e))
+  where
+    go : (k : ℕ) → cond (eqb k 0) (wakes t e) [] ≡ cond (isFine (unless k (told t e))) (wakes t e) []
+    go zero = refl
+    go (suc k) = ap (λ (b : Bool). cond b (wakes t e) []) (eqb·suc-zero k)
+
+reports-report : (t : Table) (j : ℕ) → reports t j ≡ report t j
+unfolding report ahead
+reports-report t j = refl
+
+course-run : (t : Table) (es : List Event) → course t es ≡ run t es
+unfolding course run
+course-run t [] = refl
+course-run t (e ∷ es) = ap (λ (u : Table). course u es) (leads-next t e) ∙ course-run (next jobs t e) es
+
+run-through : (t : Table) (es : List Event) (e : Event) (more : List Event) → run t (es ++ e ∷ more) ≡ run (next jobs (run t es) e) more
+unfolding run
+run-through t [] e more = refl
+run-through t (d ∷ es) e more = run-through (next jobs t d) es e more
+
+module _ (T R begin limit : ℕ) (past : List Event) (j : ℕ) (tick : Tick) (s : ℕ) (later : List Event) where
+  -- what demand 3 counts: the turn, the completions that are due, and from which table-now on
+  abbrev turn : ℕ
+  turn = n T R begin limit past j tick s later
+
+  abbrev due : ℕ
+  due = p T R begin limit past j tick s later - (T - 1)
+
+  abbrev start : Table
+  start = opened T R begin limit past j tick s later
+
+  -- the token by completions, whom an event lists, and the number in the way, as they are led to, listed and reported from t on
+  pub record Observed (t : Table) : Type 0 where
+    pub token-comes : (r : Report) → reports t j ≡ fine r → r .token ≡ leb due (leavings live start later)
+    pub token-told :
+        (e : Event) → token T (t .rows) turn ≡ false → count (eqb j) (rouses t e) ≡ bit (token T (leads t e .rows) turn)
+    pub way-reported :
+        (since : List Event) (r : Report) → reports (course t since) j ≡ fine r → r .turn .0 ≡ turn →
+        r .«in_way» + leavings (claims turn s) t since ≡ inWay (t .rows) turn s
+
+  module _ (given : Supposed T R begin limit past j tick s later) where
+    abbrev table-now : Table
+    table-now = now T R begin limit past j tick s later
+
+    abbrev promise : Demand3 T R begin limit past j tick s later
+    promise = demand3 T R begin limit past j tick s later given
+
+    token-comes : (r : Report) → reports table-now j ≡ fine r → r .token ≡ leb due (leavings live start later)
+    unfolding report
+    token-comes r q =
+        let is : reported table-now (rowIn table-now j) ≡ r =
+        acceptance-tells {B = ℕ} (reportCases table-now j) (reported table-now (rowIn table-now j)) r (sym (reports-report table-now j) ∙ q) .1 in
+        let own = bears T R begin limit past j tick s later given in
+        ap (λ (r : Report). r .token) (sym is)
+        ∙ (λ i. token (own .along .tokens i) (table-now .rows) (own .turn i))
+        ∙ promise .token-comes
+
+    -- so it is after the whole sequence
+    pub observed : Observed (course (startTable T R begin limit) (past ++ Open j tick s ∷ later))
+    observed =
+        let fresh = startTable T R begin limit in
+        subst Observed
+        (sym (course-run fresh (past ++ Open j tick s ∷ later) ∙ run-through fresh past (Open j tick s) later))
+        (record {
+          token-comes = token-comes;
+          token-told = λ e lacks.
+              ap (count (eqb j)) (rouses-lists table-now e)
+              ∙ promise .token-told e lacks
+              ∙ ap (λ (u : Table). bit (token T (u .rows) turn)) (sym (leads-next table-now e));
+          way-reported = λ since r q.
+              promise .way-reported since r
+              (sym (reports-report (run table-now since) j) ∙ ap (λ (u : Table). reports u j) (sym (course-run table-now since)) ∙ q);
+        })
