@@ -22,4 +22,8 @@ pub mod Sound
 pub mod SoundFacts
 pub mod SoundTokens
 pub mod Trial
+pub mod UpTo
+pub mod UpToHolds
+pub mod UpToLine
+pub mod UpToRows
 pub mod Worked

@@ -84,8 +84,8 @@ row turn declared asked since =
     record { turn = record { 0 = turn }; declared = declared; held = 0; asked = asked; since = since }
 
 -- when 7 has opened
-abbrev seven : Table
-seven =
+abbrev all-open : Table
+all-open =
     table 4294967290
     (row 1 3 0 0
     ∷ row 2 6 0 0
@@ -97,12 +97,12 @@ seven =
     ∷ [])
 
 -- when 6 has its token
-abbrev four : Table
-four = table 4294967300 (row 1 3 0 0 ∷ row 2 6 0 0 ∷ row 3 2 0 0 ∷ idle ∷ idle ∷ row 6 37 0 0 ∷ row 7 1 0 4294967290 ∷ [])
+abbrev token-come : Table
+token-come = table 4294967300 (row 1 3 0 0 ∷ row 2 6 0 0 ∷ row 3 2 0 0 ∷ idle ∷ idle ∷ row 6 37 0 0 ∷ row 7 1 0 4294967290 ∷ [])
 
 -- when 1 has completed, and 3 and 6 wait for what they asked
-abbrev three : Table
-three =
+abbrev set-waits : Table
+set-waits =
     table 4294967302
     (idle ∷ row 2 6 0 0 ∷ row 3 2 2 4294967301 ∷ idle ∷ idle ∷ row 6 37 5 4294967301 ∷ row 7 1 0 0 ∷ [])
 
@@ -113,13 +113,13 @@ six token waiting ahead way =
 
 pub record Figures : Type 0 where
   -- two completions are due; a refused one does not count, and after one there is no token
-  pub refused-one : reports (leads seven (Complete 5 (at 1))) 6 ≡ six false true 5 2
-  pub one-gone : reports (leads seven (Complete 4 (at 2))) 6 ≡ six false true 4 2
-  pub two-gone : reports four 6 ≡ six true false 3 2
+  pub refused-one : reports (leads all-open (Complete 5 (at 1))) 6 ≡ six false true 5 2
+  pub one-gone : reports (leads all-open (Complete 4 (at 2))) 6 ≡ six false true 4 2
+  pub two-gone : reports token-come 6 ≡ six true false 3 2
   -- one of the two in the way has completed; with the other the job is listed, and its set is held whole
-  pub three-gone : reports three 6 ≡ six true true 2 1
-  pub listed : rouses three (Complete 2 (at 7)) ≡ 3 ∷ 6 ∷ []
-  pub held : rowIn (leads three (Complete 2 (at 7))) 6 .held ≡ 5
+  pub three-gone : reports set-waits 6 ≡ six true true 2 1
+  pub listed : rouses set-waits (Complete 2 (at 7)) ≡ 3 ∷ 6 ∷ []
+  pub held : rowIn (leads set-waits (Complete 2 (at 7))) 6 .held ≡ 5
 
 pub figures : Figures
 unfolding outcome first sound all distinct count ahead inWay below inside meet meets settled union woken keep lined from place
@@ -129,7 +129,7 @@ figures = record { refused-one = refl; one-gone = refl; two-gone = refl; three-g
 abbrev after : List Event → Table
 after es = course (startTable 4 6 4294967280 50) (past ++ Open 6 (at 4294967286) 37 ∷ es)
 
-pub written-out : (after (Open 7 (at 4294967290) 1 ∷ []) ≡ seven) × (after until ≡ four) × (after (until ++ since) ≡ three)
+pub written-out : (after (Open 7 (at 4294967290) 1 ∷ []) ≡ all-open) × (after until ≡ token-come) × (after (until ++ since) ≡ set-waits)
 unfolding course startTable leaves first sound all distinct count ahead inWay below inside meet meets settled union
 written-out = (refl, refl, refl)
 
