@@ -1,16 +1,16 @@
--- Every promise determines its answer: what two calls that keep it hand back is the same.
+-- Every promise determines its answer: what two calls that keep it hand back is the same. Here are the general law and the
+-- promises of `event` and `arbiter`; those of the other crates stand in `DeterminedBelow`.
 use Prim.Native.Nat.{ℕ}
 use mathlib.Core.List.{List}
 use mathlib.Core.Path.{_≡_, refl, sym, ap, _∙_}
-use Rattle.event.specs.Clock.{forward, momentOf}
-use Rattle.event.specs.Refusals.{numberOf, refusalOf, refusalOf-numberOf}
+use Rattle.event.specs.Clock.{momentOf}
+use Rattle.event.specs.Refusals.{refusalOf, refusalOf-numberOf}
 use Rattle.event.specs.declared.clock.Moment.{Moment}
 use Rattle.event.specs.declared.clock.Moment.the-variants as Moments
-use Rattle.event.specs.declared.refusal.Refusal.{Refusal}
 use Rattle.event.specs.declared.said.Event.{Event}
 use Rattle.laws.specs.Cases.{Outcome, fine, refused}
 use Rattle.arbiter.specs.Answers.{Said, done, granted, lateOf, reportOf, saidOf, token, wait, woke}
-use Rattle.arbiter.specs.Promises.{Answered, AnsweredInto, Reports, Started, ToldLate}
+use Rattle.arbiter.specs.Promises.{Answered, AnsweredInto, Completes, Does, Reports, Started, ToldLate}
 use Rattle.arbiter.specs.declared.table.Answer.{Answer}
 use Rattle.arbiter.specs.declared.table.Answer.the-variants as Answers
 use Rattle.arbiter.specs.declared.table.Late.{Late}
@@ -21,13 +21,17 @@ use Rattle.arbiter.specs.declared.table.Reported.{Reported}
 use Rattle.arbiter.specs.declared.table.Reported.the-variants as Reporteds
 use Rattle.arbiter.specs.declared.table.Table.{Table}
 
+-- a promise that the result equals a definition determines it, whatever the definition
+pub determined : {A : Type 0} {x r r′ : A} → r ≡ x → r′ ≡ x → r ≡ r′
+determined p q = p ∙ sym q
+
 -- ---- What is said tells what was answered
 
 -- what can be read back is told apart
-told-apart :
+pub told-apart :
     {A B : Type 0} (says : A → B) (back : B → A) → ((a : A) → back (says a) ≡ a) → {a a′ : A} {b : B} → says a ≡ b → says a′ ≡ b →
     a ≡ a′
-told-apart says back reads {a} {a′} p q = sym (reads a) ∙ ap back (p ∙ sym q) ∙ reads a′
+told-apart says back reads {a} {a′} p q = sym (reads a) ∙ ap back (determined p q) ∙ reads a′
 
 -- the answer that says this
 answerOf : Outcome Said → Answer
@@ -83,7 +87,7 @@ same-next :
     r .table ≡ t → r′ .table ≡ t → r ≡ r′
 same-next {r = r} {r′ = r′} p p′ q q′ =
     let answer : r .answer ≡ r′ .answer = told-apart saidOf answerOf answer-said p p′ in
-    let table : r .table ≡ r′ .table = q ∙ sym q′ in
+    let table : r .table ≡ r′ .table = determined q q′ in
     λ i. record { answer = answer i; table = table i }
 
 -- ---- The arbiter's promises
@@ -94,7 +98,7 @@ answered-determined p q = same-next (p .says) (q .says) (p .hands) (q .hands)
 pub answered-into-determined :
     {t : Table} {e : Event} {before after after′ : List ℕ} {r r′ : Next} → AnsweredInto t e before r after →
     AnsweredInto t e before r′ after′ → (r ≡ r′) × (after ≡ after′)
-answered-into-determined p q = (answered-determined (p .answered) (q .answered), p .lists ∙ sym (q .lists))
+answered-into-determined p q = (answered-determined (p .answered) (q .answered), determined (p .lists) (q .lists))
 
 pub started-determined :
     {T R tick limit : ℕ} {r r′ : Next} → Started T R tick limit r → Started T R tick limit r′ → r ≡ r′
@@ -106,13 +110,17 @@ report-determined t j r r′ = told-apart reportOf reportedOf reported-said
 pub late-determined :
     {t : Table} {tick : ℕ} {before after after′ : List ℕ} {r r′ : Late} → ToldLate t tick before r after →
     ToldLate t tick before r′ after′ → (r ≡ r′) × (after ≡ after′)
-late-determined p q = (told-apart lateOf countOf count-said (p .says) (q .says), p .lists ∙ sym (q .lists))
+late-determined p q = (told-apart lateOf countOf count-said (p .says) (q .says), determined (p .lists) (q .lists))
 
--- ---- Those of events
+-- what its verdicts give, as its clock does: the next true time or a refusal
+pub moment-determined : {said : Outcome ℕ} {m m′ : Moment} → momentOf m ≡ said → momentOf m′ ≡ said → m ≡ m′
+moment-determined = told-apart momentOf whenOf when-said
 
-pub moment-determined :
-    (time tick : ℕ) (m m′ : Moment) → momentOf m ≡ forward time tick → momentOf m′ ≡ forward time tick → m ≡ m′
-moment-determined time tick m m′ = told-apart momentOf whenOf when-said
+-- what its effects give
+pub does-determined : {said : Said} {t : Table} {r r′ : Next} → Does said t r → Does said t r′ → r ≡ r′
+does-determined p q = same-next (p .says) (q .says) (p .hands) (q .hands)
 
-pub number-determined : (r : Refusal) (n n′ : ℕ) → n ≡ numberOf r → n′ ≡ numberOf r → n ≡ n′
-number-determined r n n′ p q = p ∙ sym q
+pub completes-determined :
+    {t : Table} {k time : ℕ} {before after after′ : List ℕ} {r r′ : Next} → Completes t k time before r after →
+    Completes t k time before r′ after′ → (r ≡ r′) × (after ≡ after′)
+completes-determined p q = (does-determined (p .does) (q .does), determined (p .lists) (q .lists))

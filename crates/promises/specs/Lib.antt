@@ -6,6 +6,7 @@ pub mod DemandOthers
 pub mod DemandSets
 pub mod DemandToken
 pub mod Determined
+pub mod DeterminedBelow
 pub mod History
 pub mod HistoryCount
 pub mod HistoryRow
