@@ -5,7 +5,6 @@ use mathlib.Core.Bool.{Bool, true, false, cond, _&&_}
 use mathlib.Core.List.{List, [], _∷_, _++_}
 use mathlib.Core.Path.{_≡_, refl, sym, ap, subst, _∙_}
 use lib.Dec.{eqb, leb, ltb, eqb·suc-zero}
-use lib.ListN.{replicate}
 use Rattle.event.specs.declared.clock.Tick.{Tick}
 use Rattle.event.specs.declared.said.Event.{Event}
 use Rattle.event.specs.declared.said.Event.the-variants.{Open, Complete}
@@ -14,7 +13,7 @@ use Rattle.laws.specs.Cases.{Outcome, fine, acceptance-tells, first, keepUnless
 use Rattle.laws.specs.Lists.{all, count}
 use Rattle.laws.specs.Sets.{below, inside, meet, meets, union}
 use Rattle.rows.specs.Line.{from, keep, lined, place}
-use Rattle.rows.specs.Order.{ahead, claims, distinct, idle, inWay, jobs, live, token, waiting}
+use Rattle.rows.specs.Order.{ahead, claims, distinct, inWay, jobs, live, token, waiting}
 use Rattle.rows.specs.Sweep.{settled, woken}
 use Rattle.rows.specs.declared.row.Row.{Row}
 use Rattle.arbiter.specs.Meaning.{accepted, answer, next, report, reported, run, startTable, told, wakes}
@@ -23,7 +22,7 @@ use Rattle.arbiter.specs.Sound.{sound}
 use Rattle.arbiter.specs.declared.table.Report.{Report}
 use Rattle.arbiter.specs.declared.table.Table.{Table}
 use Rattle.promises.specs.Demand.{Demand3, Supposed, n, now, opened, p}
-use Rattle.promises.specs.DemandExample.{at, past, since, until}
+use Rattle.promises.specs.DemandExample.{all-open, at, latecomer, now-is, past, set-waits, since, token-come, until}
 use Rattle.promises.specs.DemandHolds.{bears, demand3}
 use Rattle.promises.specs.History.{isFine, leavings, lists}
 use Rattle.promises.specs.Sound.{rowIn}
@@ -66,46 +65,6 @@ course t (e ∷ es) = course (leads t e) es
 
 -- ---- In figures: the history of DemandExample, in which job 6 opens behind five, with four tokens
 
--- its tables, written out: job 0 is idle, then come these, and all others are idle
-abbrev table : ℕ → List Row → Table
-table time rows =
-    record {
-      tokens = 4;
-      resources = 6;
-      limit = 50;
-      time = time;
-      last = record { 0 = 7 };
-      rows = idle ∷ rows ++ replicate (jobs - 8) idle;
-    }
-
--- a row that holds nothing
-abbrev row : ℕ → ℕ → ℕ → ℕ → Row
-row turn declared asked since =
-    record { turn = record { 0 = turn }; declared = declared; held = 0; asked = asked; since = since }
-
--- when 7 has opened
-abbrev all-open : Table
-all-open =
-    table 4294967290
-    (row 1 3 0 0
-    ∷ row 2 6 0 0
-    ∷ row 3 2 0 0
-    ∷ row 4 8 0 0
-    ∷ row 5 16 0 4294967285
-    ∷ row 6 37 0 4294967286
-    ∷ row 7 1 0 4294967290
-    ∷ [])
-
--- when 6 has its token
-abbrev token-come : Table
-token-come = table 4294967300 (row 1 3 0 0 ∷ row 2 6 0 0 ∷ row 3 2 0 0 ∷ idle ∷ idle ∷ row 6 37 0 0 ∷ row 7 1 0 4294967290 ∷ [])
-
--- when 1 has completed, and 3 and 6 wait for what they asked
-abbrev set-waits : Table
-set-waits =
-    table 4294967302
-    (idle ∷ row 2 6 0 0 ∷ row 3 2 2 4294967301 ∷ idle ∷ idle ∷ row 6 37 5 4294967301 ∷ row 7 1 0 0 ∷ [])
-
 -- a report of job 6, whose turn is 6
 abbrev six : Bool → Bool → ℕ → ℕ → Outcome Report
 six token waiting ahead way =
@@ -124,14 +83,6 @@ pub record Figures : Type 0 where
 pub figures : Figures
 unfolding outcome first sound all distinct count ahead inWay below inside meet meets settled union woken keep lined from place
 figures = record { refused-one = refl; one-gone = refl; two-gone = refl; three-gone = refl; listed = refl; held = refl }
-
--- these are the tables of that history, after so many of its events
-abbrev after : List Event → Table
-after es = course (startTable 4 6 4294967280 50) (past ++ Open 6 (at 4294967286) 37 ∷ es)
-
-pub written-out : (after (Open 7 (at 4294967290) 1 ∷ []) ≡ all-open) × (after until ≡ token-come) × (after (until ++ since) ≡ set-waits)
-unfolding course startTable leaves first sound all distinct count ahead inWay below inside meet meets settled union
-written-out = (refl, refl, refl)
 
 -- ---- Over any history: it does what the meanings say, so demand 3 holds of it
 
@@ -164,6 +115,13 @@ run-through : (t : Table) (es : List Event) (e : Event) (more : List Event) → 
 unfolding run
 run-through t [] e more = refl
 run-through t (d ∷ es) e more = run-through (next jobs t d) es e more
+
+-- so the whole history of DemandExample leads to its last table
+pub reached : course (startTable 4 6 4294967280 50) (past ++ Open 6 (at 4294967286) 37 ∷ latecomer ∷ until ++ since) ≡ set-waits
+reached =
+    let fresh = startTable 4 6 4294967280 50 in
+    let more = latecomer ∷ until ++ since in
+    course-run fresh (past ++ Open 6 (at 4294967286) 37 ∷ more) ∙ run-through fresh past (Open 6 (at 4294967286) 37) more ∙ now-is
 
 module _ (T R begin limit : ℕ) (past : List Event) (j : ℕ) (tick : Tick) (s : ℕ) (later : List Event) where
   -- what demand 3 counts: the turn, the completions that are due, and from which table-now on
