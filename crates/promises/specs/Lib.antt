@@ -24,6 +24,7 @@ pub mod SoundFacts
 pub mod SoundTokens
 pub mod Trial
 pub mod UpTo
+pub mod UpToExample
 pub mod UpToHolds
 pub mod UpToLine
 pub mod UpToRows
