@@ -7,6 +7,7 @@ use Rattle.event.specs.Clock.{momentOf}
 use Rattle.event.specs.Refusals.{refusalOf, refusalOf-numberOf}
 use Rattle.event.specs.declared.clock.Moment.{Moment}
 use Rattle.event.specs.declared.clock.Moment.the-variants as Moments
+use Rattle.event.specs.declared.refusal.Refusal.{Refusal}
 use Rattle.event.specs.declared.said.Event.{Event}
 use Rattle.laws.specs.Cases.{Outcome, fine, refused}
 use Rattle.arbiter.specs.Answers.{Said, done, granted, lateOf, reportOf, saidOf, token, wait, woke}
@@ -16,7 +17,6 @@ use Rattle.arbiter.specs.declared.table.Answer.the-variants as Answers
 use Rattle.arbiter.specs.declared.table.Late.{Late}
 use Rattle.arbiter.specs.declared.table.Late.the-variants as Lates
 use Rattle.arbiter.specs.declared.table.Next.{Next}
-use Rattle.arbiter.specs.declared.table.Report.{Report}
 use Rattle.arbiter.specs.declared.table.Reported.{Reported}
 use Rattle.arbiter.specs.declared.table.Reported.the-variants as Reporteds
 use Rattle.arbiter.specs.declared.table.Table.{Table}
@@ -33,17 +33,20 @@ pub told-apart :
     a ≡ a′
 told-apart says back reads {a} {a′} p q = sym (reads a) ∙ ap back (determined p q) ∙ reads a′
 
--- the answer that says this
-answerOf : Outcome Said → Answer
-answerOf (refused k) = Answers.No (refusalOf k)
-answerOf (fine token) = Answers.Token
-answerOf (fine granted) = Answers.Granted
-answerOf (fine wait) = Answers.Wait
-answerOf (fine done) = Answers.Done
-answerOf (fine (woke n)) = Answers.Woke n
+-- the answer with a refusing case and a case for its values that says this
+abbrev pub answerBy : {A B : Type 0} → (Refusal → A) → (B → A) → Outcome B → A
+answerBy refuses is (refused k) = refuses (refusalOf k)
+answerBy refuses is (fine b) = is b
 
-answer-said : (a : Answer) → answerOf (saidOf a) ≡ a
-unfolding answerOf
+-- the answer to an event for what it is told
+abbrev toldBy : Said → Answer
+toldBy token = Answers.Token
+toldBy granted = Answers.Granted
+toldBy wait = Answers.Wait
+toldBy done = Answers.Done
+toldBy (woke n) = Answers.Woke n
+
+answer-said : (a : Answer) → answerBy Answers.No toldBy (saidOf a) ≡ a
 answer-said (Answers.No r) = ap Answers.No (refusalOf-numberOf r)
 answer-said Answers.Token = refl
 answer-said Answers.Granted = refl
@@ -51,42 +54,24 @@ answer-said Answers.Wait = refl
 answer-said Answers.Done = refl
 answer-said (Answers.Woke n) = refl
 
--- the same of a report
-reportedOf : Outcome Report → Reported
-reportedOf (refused k) = Reporteds.No (refusalOf k)
-reportedOf (fine r) = Reporteds.Is r
+report-said : (r : Reported) → answerBy Reporteds.No Reporteds.Is (reportOf r) ≡ r
+report-said (Reporteds.No r) = ap Reporteds.No (refusalOf-numberOf r)
+report-said (Reporteds.Is x) = refl
 
-reported-said : (r : Reported) → reportedOf (reportOf r) ≡ r
-unfolding reportedOf
-reported-said (Reporteds.No r) = ap Reporteds.No (refusalOf-numberOf r)
-reported-said (Reporteds.Is x) = refl
+late-said : (l : Late) → answerBy Lates.No Lates.Count (lateOf l) ≡ l
+late-said (Lates.No r) = ap Lates.No (refusalOf-numberOf r)
+late-said (Lates.Count n) = refl
 
--- of the overdue ones
-countOf : Outcome ℕ → Late
-countOf (refused k) = Lates.No (refusalOf k)
-countOf (fine n) = Lates.Count n
-
-count-said : (l : Late) → countOf (lateOf l) ≡ l
-unfolding countOf
-count-said (Lates.No r) = ap Lates.No (refusalOf-numberOf r)
-count-said (Lates.Count n) = refl
-
--- and of a tick
-whenOf : Outcome ℕ → Moment
-whenOf (refused k) = Moments.No (refusalOf k)
-whenOf (fine n) = Moments.At n
-
-when-said : (m : Moment) → whenOf (momentOf m) ≡ m
-unfolding whenOf
-when-said (Moments.No r) = ap Moments.No (refusalOf-numberOf r)
-when-said (Moments.At n) = refl
+moment-said : (m : Moment) → answerBy Moments.No Moments.At (momentOf m) ≡ m
+moment-said (Moments.No r) = ap Moments.No (refusalOf-numberOf r)
+moment-said (Moments.At n) = refl
 
 -- so what is said and the table determine what a call on a table returns
 same-next :
     {said : Outcome Said} {t : Table} {r r′ : Next} → saidOf (r .answer) ≡ said → saidOf (r′ .answer) ≡ said →
     r .table ≡ t → r′ .table ≡ t → r ≡ r′
 same-next {r = r} {r′ = r′} p p′ q q′ =
-    let answer : r .answer ≡ r′ .answer = told-apart saidOf answerOf answer-said p p′ in
+    let answer : r .answer ≡ r′ .answer = told-apart saidOf (answerBy Answers.No toldBy) answer-said p p′ in
     let table : r .table ≡ r′ .table = determined q q′ in
     λ i. record { answer = answer i; table = table i }
 
@@ -105,16 +90,16 @@ pub started-determined :
 started-determined p q = same-next (p .says) (q .says) (p .hands) (q .hands)
 
 pub report-determined : (t : Table) (j : ℕ) (r r′ : Reported) → Reports t j r → Reports t j r′ → r ≡ r′
-report-determined t j r r′ = told-apart reportOf reportedOf reported-said
+report-determined t j r r′ = told-apart reportOf (answerBy Reporteds.No Reporteds.Is) report-said
 
 pub late-determined :
     {t : Table} {tick : ℕ} {before after after′ : List ℕ} {r r′ : Late} → ToldLate t tick before r after →
     ToldLate t tick before r′ after′ → (r ≡ r′) × (after ≡ after′)
-late-determined p q = (told-apart lateOf countOf count-said (p .says) (q .says), determined (p .lists) (q .lists))
+late-determined p q = (told-apart lateOf (answerBy Lates.No Lates.Count) late-said (p .says) (q .says), determined (p .lists) (q .lists))
 
 -- what its verdicts give, as its clock does: the next true time or a refusal
 pub moment-determined : {said : Outcome ℕ} {m m′ : Moment} → momentOf m ≡ said → momentOf m′ ≡ said → m ≡ m′
-moment-determined = told-apart momentOf whenOf when-said
+moment-determined = told-apart momentOf (answerBy Moments.No Moments.At) moment-said
 
 -- what its effects give
 pub does-determined : {said : Said} {t : Table} {r r′ : Next} → Does said t r → Does said t r′ → r ≡ r′
