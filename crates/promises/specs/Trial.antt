@@ -3,7 +3,7 @@
 use Prim.Native.Nat.{ℕ, zero, suc, _+_, _-_}
 use mathlib.Core.Bool.{Bool, true, false, cond, _&&_}
 use mathlib.Core.List.{List, [], _∷_, _++_}
-use mathlib.Core.Path.{_≡_, refl, sym, ap, subst, _∙_}
+use mathlib.Core.Path.{_≡_, refl, sym, ap, fun-ext, subst, _∙_}
 use lib.Dec.{eqb, leb, ltb, eqb·suc-zero}
 use Rattle.event.specs.declared.clock.Tick.{Tick}
 use Rattle.event.specs.declared.said.Event.{Event}
@@ -84,7 +84,7 @@ pub figures : Figures
 unfolding outcome first sound all distinct count ahead inWay below inside meet meets settled union woken keep lined from place
 figures = record { refused-one = refl; one-gone = refl; two-gone = refl; three-gone = refl; listed = refl; held = refl }
 
--- ---- Over any history: it does what the meanings say, so demand 3 holds of it
+-- ---- Over any history: it does what the meanings say
 
 leads-next : (t : Table) (e : Event) → leads t e ≡ next jobs t e
 unfolding next leaves
@@ -106,6 +106,11 @@ reports-report : (t : Table) (j : ℕ) → reports t j ≡ report t j
 unfolding report ahead
 reports-report t j = refl
 
+-- it is the arbiter that the meanings say, so all that is proved of them is true of it
+pub as-meant : (leads ≡ next jobs) × (rouses ≡ lists) × (reports ≡ report)
+as-meant =
+    (fun-ext (λ t. fun-ext (leads-next t)), fun-ext (λ t. fun-ext (rouses-lists t)), fun-ext (λ t. fun-ext (reports-report t)))
+
 course-run : (t : Table) (es : List Event) → course t es ≡ run t es
 unfolding course run
 course-run t [] = refl
@@ -123,8 +128,10 @@ reached =
     let more = latecomer ∷ until ++ since in
     course-run fresh (past ++ Open 6 (at 4294967286) 37 ∷ more) ∙ run-through fresh past (Open 6 (at 4294967286) 37) more ∙ now-is
 
+-- ---- So demand 3 holds of it, as far as it can be observed
+
 module _ (T R begin limit : ℕ) (past : List Event) (j : ℕ) (tick : Tick) (s : ℕ) (later : List Event) where
-  -- what demand 3 counts: the turn, the completions that are due, and from which table-now on
+  -- what demand 3 counts: the turn, the completions that are due, and from which table on
   abbrev turn : ℕ
   turn = n T R begin limit past j tick s later
 
@@ -144,20 +151,20 @@ module _ (T R begin limit : ℕ) (past : List Event) (j : ℕ) (tick : Tick) (s 
         r .«in_way» + leavings (claims turn s) t since ≡ inWay (t .rows) turn s
 
   module _ (given : Supposed T R begin limit past j tick s later) where
-    abbrev table-now : Table
-    table-now = now T R begin limit past j tick s later
+    abbrev table : Table
+    table = now T R begin limit past j tick s later
 
     abbrev promise : Demand3 T R begin limit past j tick s later
     promise = demand3 T R begin limit past j tick s later given
 
-    token-comes : (r : Report) → reports table-now j ≡ fine r → r .token ≡ leb due (leavings live start later)
+    token-comes : (r : Report) → reports table j ≡ fine r → r .token ≡ leb due (leavings live start later)
     unfolding report
     token-comes r q =
-        let is : reported table-now (rowIn table-now j) ≡ r =
-        acceptance-tells {B = ℕ} (reportCases table-now j) (reported table-now (rowIn table-now j)) r (sym (reports-report table-now j) ∙ q) .1 in
+        let is : reported table (rowIn table j) ≡ r =
+        acceptance-tells {B = ℕ} (reportCases table j) (reported table (rowIn table j)) r (sym (reports-report table j) ∙ q) .1 in
         let own = bears T R begin limit past j tick s later given in
         ap (λ (r : Report). r .token) (sym is)
-        ∙ (λ i. token (own .along .tokens i) (table-now .rows) (own .turn i))
+        ∙ (λ i. token (own .along .tokens i) (table .rows) (own .turn i))
         ∙ promise .token-comes
 
     -- so it is after the whole sequence
@@ -169,10 +176,10 @@ module _ (T R begin limit : ℕ) (past : List Event) (j : ℕ) (tick : Tick) (s 
         (record {
           token-comes = token-comes;
           token-told = λ e lacks.
-              ap (count (eqb j)) (rouses-lists table-now e)
+              ap (count (eqb j)) (rouses-lists table e)
               ∙ promise .token-told e lacks
-              ∙ ap (λ (u : Table). bit (token T (u .rows) turn)) (sym (leads-next table-now e));
+              ∙ ap (λ (u : Table). bit (token T (u .rows) turn)) (sym (leads-next table e));
           way-reported = λ since r q.
               promise .way-reported since r
-              (sym (reports-report (run table-now since) j) ∙ ap (λ (u : Table). reports u j) (sym (course-run table-now since)) ∙ q);
+              (sym (reports-report (run table since) j) ∙ ap (λ (u : Table). reports u j) (sym (course-run table since)) ∙ q);
         })

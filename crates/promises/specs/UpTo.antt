@@ -1,4 +1,6 @@
--- What requests of turns up to n live through depends on the rows of turns up to n, and on no others.
+-- What requests of turns up to n live through depends on the rows of turns up to n, and on no others: `up-to-decides`
+-- (UpToHolds) says `SameUpTo` of any event on two sound tables that `Agree`, each with a row for each job, the last turn of
+-- each being n or higher.
 use Prim.Native.Nat.{ℕ, _+_}
 use mathlib.Core.Bool.{Bool, true, false}
 use mathlib.Core.List.{List, map}
@@ -50,7 +52,7 @@ butNumber (fine done) = fine done
 butNumber (fine (woke k)) = fine (woke 0)
 
 -- an event on two such tables
-pub record Decided (n : ℕ) (t u : Table) (e : Event) : Type 0 where
+pub record SameUpTo (n : ℕ) (t u : Table) (e : Event) : Type 0 where
   -- one of theirs is answered the same
   pub answered : ofThem n t e ≡ true → butNumber (answer jobs t e) ≡ butNumber (answer jobs u e)
   -- any event lists the same of them as woken, in the same order, and leaves them the same rows

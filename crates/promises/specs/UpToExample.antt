@@ -15,7 +15,7 @@ use Rattle.arbiter.specs.declared.table.Table.{Table}
 use Rattle.promises.specs.Demand.{opened}
 use Rattle.promises.specs.DemandExample.{all-open, at, this}
 use Rattle.promises.specs.HistoryCount.{Along}
-use Rattle.promises.specs.UpTo.{Agree, Decided}
+use Rattle.promises.specs.UpTo.{Agree, SameUpTo}
 use Rattle.promises.specs.UpToHolds.{up-to-decides}
 
 -- the table where 7 has not opened
@@ -39,5 +39,5 @@ both-sound : (sound all-open ≡ true) × (sound without ≡ true)
 unfolding startTable run next leaves first sound all distinct count ahead inWay below inside meet meets
 both-sound = (refl, refl)
 
-pub latecomer-unseen : (e : Event) → Decided 6 all-open without e
+pub latecomer-unseen : (e : Event) → SameUpTo 6 all-open without e
 latecomer-unseen = up-to-decides along along-without (both-sound .0) (both-sound .1) agree

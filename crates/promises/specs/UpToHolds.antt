@@ -34,7 +34,7 @@ use Rattle.promises.specs.KeptAccepted.{Accepts, next-accepted, open-idl
 use Rattle.promises.specs.KeptWoken.{wakes-woken}
 use Rattle.promises.specs.Sound.{rowIn}
 use Rattle.promises.specs.SoundFacts.{seen}
-use Rattle.promises.specs.UpTo.{Agree, Decided, among, butNumber, ofThem, upTo}
+use Rattle.promises.specs.UpTo.{Agree, SameUpTo, among, butNumber, ofThem, upTo}
 use Rattle.promises.specs.UpToLine.{woken-none, woken-up-to}
 use Rattle.promises.specs.UpToRows.{alike-up-to, earlier-seen, row-up-to, seen-in, seen-out, set-up-to, settled-up-to}
 
@@ -314,7 +314,7 @@ module _ {T n : ℕ} {t u : Table} (along-t : Along T n t) (along-u : Along T n 
         go false q = rw (refused-stays t e q, refused-stays u e (sym alike ∙ q)) a
 
     -- the rows of turns up to n decide what those requests are told, who of them is woken, and their next rows
-    pub up-to-decides : Decided n t u e
+    pub up-to-decides : SameUpTo n t u e
     up-to-decides =
         record {
           answered = answered e;
