@@ -7,13 +7,13 @@ use mathlib.Core.Path.{_≡_, refl, sym, ap, subst, _∙_}
 use native.Mathlib.Decide.{decLt, ℕ-discrete}
 use native.Mathlib.Omega.{arith}
 use borrow.Author.Tests.{eq-eqb, not-true}
-use lib.ListN.{set}
+use lib.ListN.{getD, set}
 use lib.Seq.{getD-set-other}
 use Rattle.event.specs.declared.clock.Tick.{Tick}
 use Rattle.event.specs.declared.said.Event.{Event}
 use Rattle.event.specs.declared.said.Event.the-variants.{Beat, Open, Ask, Release, Complete}
 use Rattle.laws.specs.Bools.{and-right}
-use Rattle.rows.specs.Line.{keep, line}
+use Rattle.rows.specs.Line.{Each, each-head, each-tail, keep, line}
 use Rattle.rows.specs.Order.{idle, waiting}
 use Rattle.rows.specs.Sweep.{row-settled, swept, woken}
 use Rattle.rows.specs.Turns.{live-within, waiting-reads}
@@ -110,10 +110,11 @@ keep-passes f (j ∷ js) {k} m = go (f j) refl (keep-passes f js) m
     go true e more m = cons e more (List·Memᴰ·cases-cons m)
     go false e more m = more m
 
-keep-none : (f : ℕ → Bool) → ((k : ℕ) → f k ≡ false) → (js : List ℕ) → keep f js ≡ []
+pub keep-none : (f : ℕ → Bool) (js : List ℕ) → Each (λ j. f j ≡ false) js → keep f js ≡ []
 unfolding keep
-keep-none f none [] = refl
-keep-none f none (j ∷ js) = rw (none j) (keep-none f none js)
+keep-none f [] none = refl
+keep-none f (j ∷ js) none =
+    rw (each-head (λ k. f k ≡ false) j js none) (keep-none f js (each-tail (λ k. f k ≡ false) j js none))
 
 -- nobody is woken but by a completion
 pub only-completions-wake :
@@ -121,7 +122,8 @@ pub only-completions-wake :
     woken (t .tokens) (t .rows) (next n t e .rows) ≡ []
 unfolding woken
 only-completions-wake n t e ok other =
-    rw (next-accepted n t e ok) (keep-none _ (λ k. go k (fate n t e ok k)) (line (accepted t e .rows)))
+    let jobs = line (accepted t e .rows) in
+    rw (next-accepted n t e ok) (keep-none _ jobs (λ i inside. go (getD jobs i 0) (fate n t e ok (getD jobs i 0))))
   where
     go :
         (k : ℕ) → Fate t e k →

@@ -24,8 +24,10 @@ pub mod SoundFacts
 pub mod SoundTokens
 pub mod Trial
 pub mod UpTo
+pub mod UpToEvent
 pub mod UpToExample
 pub mod UpToHolds
 pub mod UpToLine
 pub mod UpToRows
+pub mod UpToSame
 pub mod Worked

@@ -1,5 +1,5 @@
 -- What requests of turns up to n live through depends on the rows of turns up to n, and on no others: `up-to-decides`
--- (UpToHolds) says `SameUpTo` of any event on two sound tables that `Agree`, each with a row for each job, the last turn of
+-- and `up-to-tells` (UpToHolds) say `SameUpTo` of any event and `ToldAlike` on two sound tables that `Agree`, each with a row for each job, the last turn of
 -- each being n or higher.
 use Prim.Native.Nat.{ℕ, _+_}
 use mathlib.Core.Bool.{Bool, true, false}
@@ -12,7 +12,7 @@ use Rattle.rows.specs.Line.{keep}
 use Rattle.rows.specs.Order.{earlier, jobs}
 use Rattle.rows.specs.declared.row.Row.{Row}
 use Rattle.arbiter.specs.Answers.{Said, done, granted, token, wait, woke}
-use Rattle.arbiter.specs.Meaning.{answer, next}
+use Rattle.arbiter.specs.Meaning.{answer, late, next, report}
 use Rattle.arbiter.specs.declared.table.Table.{Table}
 use Rattle.promises.specs.History.{lists, taken}
 use Rattle.promises.specs.Sound.{rowIn}
@@ -63,3 +63,8 @@ pub record SameUpTo (n : ℕ) (t u : Table) (e : Event) : Type 0 where
   pub taken-alike : ofThem n t e ≡ true → taken t e ≡ taken u e
   -- any other event changes nothing of theirs
   pub others : ofThem n t e ≡ false → upTo n (next jobs t e .rows) ≡ upTo n (t .rows)
+
+-- the two questions on two such tables: a report of one of them, and who of them is overdue
+pub record ToldAlike (n : ℕ) (t u : Table) : Type 0 where
+  pub reported : (j : ℕ) → among n t j ≡ true → report t j ≡ report u j
+  pub overdue : (tick : ℕ) → keep (among n t) (late t tick) ≡ keep (among n u) (late u tick)

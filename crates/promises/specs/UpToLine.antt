@@ -1,18 +1,20 @@
 -- The jobs of turns up to n in line, and those of them that are woken, are those of the rows up to n alone.
-use Prim.Native.Nat.{ℕ, _+_, _<_}
+use Prim.Native.Nat.{ℕ, _+_, _-_, _<_}
 use mathlib.Core.Bool.{Bool, true, false, cond, not, _&&_, and-false, and-not-self, and-true, true≢false}
 use mathlib.Core.List.{List, [], _∷_}
 use mathlib.Core.Path.{_≡_, refl, sym, ap, fun-ext, _∙_}
 use native.Mathlib.Omega.{arith}
 use borrow.Author.Tests.{lt-ltb, ltb-true}
-use lib.Dec.{ltb}
+use lib.Dec.{leb, ltb}
 use lib.ListN.{getD, length, length-map}
 use Rattle.rows.specs.InLine.{InTurn, lined-in-turn}
-use Rattle.rows.specs.Line.{Each, each-head, each-tail, from, keep, line, lined, place, rowOf}
+use Rattle.rows.specs.Line.{from, keep, line, lined, place, rowOf}
 use Rattle.rows.specs.Order.{earlier, idle, live, waiting}
 use Rattle.rows.specs.Sweep.{woke, woken}
 use Rattle.rows.specs.Turns.{earlier-turn, not-earlier, turn-earlier}
 use Rattle.rows.specs.declared.row.Row.{Row}
+use Rattle.arbiter.specs.Meaning.{lateJob}
+use Rattle.promises.specs.KeptWoken.{keep-none}
 use Rattle.promises.specs.SoundFacts.{seen}
 use Rattle.promises.specs.UpTo.{upTo}
 use Rattle.promises.specs.UpToRows.{row-up-to, seen-in, waiting-up-to}
@@ -29,13 +31,6 @@ keep-keep f g (j ∷ l) = go (g j) (keep-keep f g l)
         keep f (cond b (j ∷ keep g l) (keep g l)) ≡ cond (b && f j) (j ∷ keep (λ j. g j && f j) l) (keep (λ j. g j && f j) l)
     go true ih = ap (λ (m : List ℕ). cond (f j) (j ∷ m) m) ih
     go false ih = ih
-
--- nothing is kept of a list none of which passes
-keep-none : (f : ℕ → Bool) (l : List ℕ) → Each (λ j. f j ≡ false) l → keep f l ≡ []
-unfolding keep
-keep-none f [] none = refl
-keep-none f (j ∷ l) none =
-    rw (each-head (λ k. f k ≡ false) j l none) (keep-none f l (each-tail (λ k. f k ≡ false) j l none))
 
 -- ---- The line
 
@@ -127,7 +122,18 @@ module _ (n : ℕ) (rows : List Row) where
   line-up-to : keep low (line rows) ≡ line (upTo n rows)
   line-up-to = lined-up-to (from 0 (length rows)) ∙ ap (λ (k : ℕ). lined (upTo n rows) (from 0 k)) (sym (length-map rows (seen m)))
 
--- ---- Whom a change wakes
+  -- what is listed of them, by tests that say the same of each
+  pub keep-up-to :
+      (f g : ℕ → Bool) → ((j : ℕ) → low j ≡ true → f j ≡ g j) → keep low (keep f (line rows)) ≡ keep g (line (upTo n rows))
+  keep-up-to f g same =
+      keep-keep low f (line rows)
+      ∙ ap (λ (h : ℕ → Bool). keep h (line rows)) (fun-ext (λ j. each j (low j) refl))
+      ∙ sym (keep-keep g low (line rows))
+      ∙ ap (keep g) line-up-to
+    where
+      each : (j : ℕ) (b : Bool) → low j ≡ b → (f j && b) ≡ (b && g j)
+      each j true e = and-true (f j) ∙ same j e
+      each j false e = and-false (f j)
 
 -- of those woken, the ones up to n are those that the rows up to n say, if none of them is new
 pub woken-up-to :
@@ -136,23 +142,22 @@ pub woken-up-to :
     keep (λ j. earlier (n + 1) (rowOf after j)) (woken T before after) ≡ woken T (upTo n before) (upTo n after)
 unfolding woken
 woken-up-to n T before after old =
-    keep-keep among (woke T before after) (line after)
-    ∙ ap (λ (f : ℕ → Bool). keep f (line after)) (fun-ext (λ j. each j (among j) refl))
-    ∙ sym (keep-keep (woke T (upTo n before) (upTo n after)) among (line after))
-    ∙ ap (keep (woke T (upTo n before) (upTo n after))) (line-up-to n after)
-  where
-    among : ℕ → Bool
-    among j = earlier (n + 1) (rowOf after j)
-
-    each :
-        (j : ℕ) (b : Bool) → among j ≡ b → (woke T before after j && b) ≡ (b && woke T (upTo n before) (upTo n after) j)
-    each j true e =
-        and-true (woke T before after j)
-        ∙ (λ i. waiting-up-to n before T j (old j e) i && not (waiting-up-to n after T j e i))
-    each j false e = and-false (woke T before after j)
+    keep-up-to n after (woke T before after) (woke T (upTo n before) (upTo n after))
+    (λ j e i. waiting-up-to n before T j (old j e) i && not (waiting-up-to n after T j e i))
 
 -- no change wakes nobody
 pub woken-none : (T : ℕ) (rows : List Row) → woken T rows rows ≡ []
 unfolding woken
 woken-none T rows =
     keep-none (woke T rows rows) (line rows) (λ i inside. and-not-self (waiting T rows (rowOf rows (getD (line rows) i 0))))
+
+-- of those overdue too
+pub late-up-to :
+    (n T limit time : ℕ) (rows : List Row) →
+    keep (λ j. earlier (n + 1) (rowOf rows j)) (keep (lateJob T limit time rows) (line rows))
+    ≡ keep (lateJob T limit time (upTo n rows)) (line (upTo n rows))
+late-up-to n T limit time rows =
+    keep-up-to n rows (lateJob T limit time rows) (lateJob T limit time (upTo n rows))
+    (λ j e.
+    let row : rowOf rows j ≡ rowOf (upTo n rows) j = sym (row-up-to n rows j ∙ seen-in (n + 1) (rowOf rows j) e) in
+    λ i. waiting-up-to n rows T j e i && leb limit (time - row i .since))
