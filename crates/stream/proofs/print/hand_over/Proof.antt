@@ -1,0 +1,29 @@
+-- True is returned only where it was true before.
+use mathlib.Core.Path.{sym, _∙_}
+use borrow.Author.Tests.{not-false}
+use borrow.Author.Needs.{needs}
+use Rattle.stream.proofs.print.hand_over.Statement.{statement}
+use Rattle.stream.proofs.print.hand_over.Tie as tie
+
+returns : tie.Need-returns
+returns c = search needs
+
+write-all-requires : tie.Need-write-all-requires
+write-all-requires c κs = search needs
+
+returns-2 : tie.Need-returns-2
+returns-2 c = λ e. sym (not-false _ (c .before .before .if1 .left)) ∙ e
+
+slice-aggregate-fail : tie.Need-slice-aggregate-fail
+slice-aggregate-fail c = search needs
+
+fail-requires : tie.Need-fail-requires
+fail-requires c κs = search needs
+
+returns-3 : tie.Need-returns-3
+returns-3 c = search needs
+
+pub hand-over-spec : {M : Type 1} → statement M
+hand-over-spec =
+    tie.close
+    (tie.spec returns write-all-requires returns-2 slice-aggregate-fail fail-requires returns-3)

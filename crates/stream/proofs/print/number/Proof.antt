@@ -1,0 +1,51 @@
+-- A number has at most 20 digits, and what was written at the front of the array is its text.
+use Prim.Native.Nat.{ℕ}
+use mathlib.Core.List.{List}
+use mathlib.Core.Path.{_≡_, refl, sym}
+use native.Mathlib.Nat.{zero-add}
+use native.Mathlib.Omega.{arith}
+use lib.ListN.{length, take, drop}
+use lib.Seq.{length-take-le, take-at}
+use borrow.Author.Needs.{needs}
+use Rattle.laws.specs.Front.{Wrote, laid-front, over}
+use Rattle.decimal.specs.Text.{length-text-u64}
+use Rattle.stream.proofs.print.number.Statement.{statement}
+use Rattle.stream.proofs.print.number.Tie as tie
+
+-- what was written at the front is what stands there
+front : {before t after : List ℕ} {end : ℕ} → Wrote before 0 t end after → take end after ≡ t
+unfolding over
+front {before} {t} w = rw (w .ends, w .left, zero-add, laid-front) (take-at t (drop (length t) before) (length t) refl)
+
+slice-aggregate-write : tie.Need-slice-aggregate-write
+slice-aggregate-write c = search needs
+
+write-requires : tie.Need-write-requires
+write-requires c κs = omega (arith, length-text-u64 (c .before .before .args .n) (c .before .before .fits .n .fits))
+
+array-share-prefix-digits : tie.Need-array-share-prefix-digits
+array-share-prefix-digits c = search needs
+
+slice-aggregate-text : tie.Need-slice-aggregate-text
+slice-aggregate-text c = sym (length-take-le (c .before .before .before .write .result) (c .before .before .before .write .last .1 .0) (omega (arith, length-text-u64 (c .before .before .before .before .before .before .args .n) (c .before .before .before .before .before .before .fits .n .fits), c .before .before .before .write .ensures .ends, c .before .before .before .write .kept .1 .0)))
+
+text-requires : tie.Need-text-requires
+text-requires c κs = search needs
+
+same-length : tie.Need-same-length
+same-length c = search needs
+
+returns : tie.Need-returns
+returns c = rw (front (c .before .before .before .before .before .before .write .ensures)) at (c .before .before .text .ensures)
+
+pub number-spec : {M : Type 1} → statement M
+number-spec =
+    tie.close
+    (tie.spec
+    slice-aggregate-write
+    write-requires
+    array-share-prefix-digits
+    slice-aggregate-text
+    text-requires
+    same-length
+    returns)

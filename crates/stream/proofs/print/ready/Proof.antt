@@ -1,0 +1,30 @@
+-- Whether n bytes fit behind what waits is what the two tests find out.
+use Prim.Native.Nat.{_+_}
+use native.Mathlib.Omega.{arith}
+use lib.ListN.{length}
+use borrow.Author.Tests.{le-leb, lt-leb}
+use borrow.Author.Needs.{needs}
+use Rattle.stream.proofs.print.ready.Statement.{statement}
+use Rattle.stream.proofs.print.ready.Tie as tie
+
+flush-requires : tie.Need-flush-requires
+flush-requires c κs = search needs
+
+returns : tie.Need-returns
+returns c = record { place = rw (lt-leb (c .before .before .before .before .args .out .at + c .before .before .before .before .args .n) (length (c .before .before .before .before .args .room .now)) (omega arith)) (c .flush .ensures .none); failed = c .flush .ensures .failed }
+
+sub-if2 : tie.Need-sub-if2
+sub-if2 c = search needs
+
+flush-requires-2 : tie.Need-flush-requires-2
+flush-requires-2 c κs = search needs
+
+returns-2 : tie.Need-returns-2
+returns-2 c = record { place = rw (lt-leb (c .before .before .before .before .before .before .args .out .at + c .before .before .before .before .before .before .args .n) (length (c .before .before .before .before .before .before .args .room .now)) (omega arith)) (c .flush2 .ensures .none); failed = c .flush2 .ensures .failed }
+
+returns-3 : tie.Need-returns-3
+returns-3 c = record { place = rw (le-leb (c .before .before .before .before .before .args .out .at + c .before .before .before .before .before .args .n) (length (c .before .before .before .before .before .args .room .now)) (omega arith)); failed = λ e. e }
+
+pub ready-spec : {M : Type 1} → statement M
+ready-spec =
+    tie.close (tie.spec flush-requires returns sub-if2 flush-requires-2 returns-2 returns-3)

@@ -1,0 +1,41 @@
+-- What is ready has the place that is promised, and from there on there is room.
+use mathlib.Core.Path.{refl}
+use native.Mathlib.Omega.{arith}
+use lib.ListN.{length}
+use borrow.Author.Needs.{needs}
+use Rattle.stream.specs.Printing.{place-fits}
+use Rattle.stream.proofs.print.text.Statement.{statement}
+use Rattle.stream.proofs.print.text.Tie as tie
+
+ready-requires : tie.Need-ready-requires
+ready-requires c κs = search needs
+
+hand-over-requires : tie.Need-hand-over-requires
+hand-over-requires c κs = search needs
+
+same-length : tie.Need-same-length
+same-length c = search needs
+
+returns : tie.Need-returns
+returns c = record { waits = λ h. absurd (omega arith); straight = λ h. (refl, refl); failed = λ e. c .hand-over .ensures (c .before .before .ready .ensures .failed e) }
+
+lay-requires : tie.Need-lay-requires
+lay-requires c κs = omega (arith, c .before .before .ready .ensures .place, place-fits (length (c .before .before .before .before .before .before .args .room .now)) (c .before .before .before .before .before .before .args .out .at) (length (c .before .before .before .before .before .before .args .bytes .now)) (omega arith))
+
+same-length-2 : tie.Need-same-length-2
+same-length-2 c = search needs
+
+returns-2 : tie.Need-returns-2
+returns-2 c = record { waits = λ h. rw (← c .before .before .before .before .before .ready .ensures .place) (c .before .before .lay .ensures); straight = λ h. absurd (omega arith); failed = c .before .before .before .before .before .ready .ensures .failed }
+
+pub text-spec : {M : Type 1} → statement M
+text-spec =
+    tie.close
+    (tie.spec
+    ready-requires
+    hand-over-requires
+    same-length
+    returns
+    lay-requires
+    same-length-2
+    returns-2)

@@ -1,0 +1,100 @@
+// Text and numbers to standard output.
+ghost use Prim.Native.Nat.{_+_, _≤_};
+ghost use mathlib.Core.Bool.{false};
+ghost use mathlib.Core.Path.{_≡_};
+ghost use lib.ListN.{length};
+ghost use Rattle.laws.specs.Front.{Wrote};
+ghost use Rattle.decimal.specs.Text.{text as decimal};
+ghost use Rattle.stream.specs.Printing.{Flushed, Printed, Ready};
+use libc::STDOUT_FILENO;
+
+// How many bytes wait at the front of the room, and whether every write so far was taken. A program begins with 0 and true.
+pub struct Out {
+    pub at: usize,
+    pub good: bool,
+}
+
+// Writes the bytes, unless a write failed before. A failure is said on standard error.
+fn hand_over(good: bool, bytes: &[u8]) -> bool
+    ensures { λ r. ⌜ (good ≡ false → r ≡ false) ⌝ }
+{
+    if !good {
+        return false;
+    }
+    if io::write_all(STDOUT_FILENO, bytes) {
+        return true;
+    }
+    os::fail(b"standard output");
+    false
+}
+
+// Writes what waits.
+pub fn flush(out: Out, room: &[u8]) -> Out
+    ensures { λ r. ⌜ Flushed out r ⌝ }
+{
+    let at = out.at;
+    if room.len() < at {
+        return Out {
+            at: 0,
+            good: hand_over(out.good, room),
+        };
+    }
+    Out {
+        at: 0,
+        good: hand_over(out.good, &room[..at]),
+    }
+}
+
+// Makes sure of n bytes behind what waits, else writes that.
+fn ready(out: Out, room: &[u8], n: usize) -> Out
+    ensures { λ r. ⌜ Ready (length (now (room .entry))) out n r ⌝ }
+{
+    if room.len() < out.at {
+        return flush(out, room);
+    }
+    if room.len() - out.at < n {
+        return flush(out, room);
+    }
+    out
+}
+
+// Puts the bytes in the room from `at` on, and returns the place behind them.
+fn lay(room: &mut [u8], at: usize, bytes: &[u8]) -> usize
+    requires { ⌜ at + length (now bytes) ≤ length (now room) ⌝ }
+    ensures { λ r. ⌜ Wrote (now (room .entry)) at (now (bytes .entry)) r (now (room .exit)) ⌝ }
+{
+    let mut i = 0;
+    while i < bytes.len() {
+        room[at + i] = bytes[i];
+        i += 1;
+    }
+    at + i
+}
+
+// Prints the bytes. They wait in the room, which is written first if they do not fit behind what waits there; a text that is
+// longer than the room goes straight out.
+pub fn text(out: Out, room: &mut [u8], bytes: &[u8]) -> Out
+    ensures { λ r. ⌜ Printed (now (room .entry)) out (now (bytes .entry)) r (now (room .exit)) ⌝ }
+{
+    let start = ready(out, room, bytes.len());
+    if room.len() < bytes.len() {
+        return Out {
+            at: 0,
+            good: hand_over(start.good, bytes),
+        };
+    }
+    let end = lay(room, start.at, bytes);
+    Out {
+        at: end,
+        good: start.good,
+    }
+}
+
+// Prints a number in decimal.
+pub fn number(out: Out, room: &mut [u8], n: u64) -> Out
+    ensures { λ r. ⌜ Printed (now (room .entry)) out (decimal n) r (now (room .exit)) ⌝ }
+{
+    let mut digits = [0u8; 20];
+    let end = decimal::write(n, &mut digits, 0);
+    text(out, room, &digits[..end])
+}
