@@ -17,18 +17,18 @@ placeFor size at n = cond (leb (at + n) size) at 0
 -- nothing waits any more, and a failure is not forgotten
 pub record Flushed (out r : Out) : Type 0 where
   pub none : r .at ≡ 0
-  pub failed : out .good ≡ false → r .good ≡ false
+  pub kept : out .failures ≤ r .failures
 
 -- n bytes can be put where these wait now, if a room of that size holds them at all
 pub record Ready (size : ℕ) (out : Out) (n : ℕ) (r : Out) : Type 0 where
   pub place : r .at ≡ placeFor size (out .at) n
-  pub failed : out .good ≡ false → r .good ≡ false
+  pub kept : out .failures ≤ r .failures
 
 -- the bytes wait too, behind those that waited or alone; more than the room holds went straight out
 pub record Printed (before : List ℕ) (out : Out) (bytes : List ℕ) (r : Out) (after : List ℕ) : Type 0 where
   pub waits : length bytes ≤ length before → Wrote before (placeFor (length before) (out .at) (length bytes)) bytes (r .at) after
   pub straight : length before < length bytes → (r .at ≡ 0) × (after ≡ before)
-  pub failed : out .good ≡ false → r .good ≡ false
+  pub kept : out .failures ≤ r .failures
 
 pub place-fits : (size at n : ℕ) → n ≤ size → placeFor size at n + n ≤ size
 place-fits size at n h = go (leb (at + n) size) refl

@@ -2,10 +2,10 @@
 ghost use Rattle.io.specs.Counts.{Counts};
 use libc::STDIN_FILENO;
 
-// How many bytes came, and whether no read failed. Where fewer came than there is room for, the input has ended or a read failed.
+// How many bytes came, and whether a read failed. Where fewer came than there is room for and none failed, the input has ended.
 pub struct Piece {
     pub count: usize,
-    pub good: bool,
+    pub failed: bool,
 }
 
 // Reads once. A failure is said on standard error.
@@ -19,7 +19,7 @@ fn read_some(part: &mut [u8]) -> Piece
     let count = io::count(got, part);
     Piece {
         count,
-        good: 0 <= got,
+        failed: got < 0,
     }
 }
 
@@ -33,10 +33,13 @@ pub fn fill(piece: &mut [u8]) -> Piece
         if more.count == 0 {
             return Piece {
                 count,
-                good: more.good,
+                failed: more.failed,
             };
         }
         count += more.count;
     }
-    Piece { count, good: true }
+    Piece {
+        count,
+        failed: false,
+    }
 }

@@ -1,31 +1,30 @@
 // Text and numbers to standard output.
 ghost use Prim.Native.Nat.{_+_, _≤_};
-ghost use mathlib.Core.Bool.{false};
-ghost use mathlib.Core.Path.{_≡_};
 ghost use lib.ListN.{length};
 ghost use Rattle.laws.specs.Front.{Wrote};
 ghost use Rattle.decimal.specs.Text.{text as decimal};
 ghost use Rattle.stream.specs.Printing.{Flushed, Printed, Ready};
 use libc::STDOUT_FILENO;
 
-// How many bytes wait at the front of the room, and whether every write so far was taken. A program begins with 0 and true.
+// How many bytes wait at the front of the room, and how many writes failed: after the first nothing is written any more.
+// A program begins with 0 and 0.
 pub struct Out {
     pub at: usize,
-    pub good: bool,
+    pub failures: u32,
 }
 
 // Writes the bytes, unless a write failed before. A failure is said on standard error.
-fn hand_over(good: bool, bytes: &[u8]) -> bool
-    ensures { λ r. ⌜ (good ≡ false → r ≡ false) ⌝ }
+fn hand_over(failures: u32, bytes: &[u8]) -> u32
+    ensures { λ r. ⌜ failures ≤ r ⌝ }
 {
-    if !good {
-        return false;
+    if 0 < failures {
+        return failures;
     }
     if io::write_all(STDOUT_FILENO, bytes) {
-        return true;
+        return 0;
     }
     os::fail(b"standard output");
-    false
+    1
 }
 
 // Writes what waits.
@@ -36,12 +35,12 @@ pub fn flush(out: Out, room: &[u8]) -> Out
     if room.len() < at {
         return Out {
             at: 0,
-            good: hand_over(out.good, room),
+            failures: hand_over(out.failures, room),
         };
     }
     Out {
         at: 0,
-        good: hand_over(out.good, &room[..at]),
+        failures: hand_over(out.failures, &room[..at]),
     }
 }
 
@@ -80,13 +79,13 @@ pub fn text(out: Out, room: &mut [u8], bytes: &[u8]) -> Out
     if room.len() < bytes.len() {
         return Out {
             at: 0,
-            good: hand_over(start.good, bytes),
+            failures: hand_over(start.failures, bytes),
         };
     }
     let end = lay(room, start.at, bytes);
     Out {
         at: end,
-        good: start.good,
+        failures: start.failures,
     }
 }
 

@@ -11,7 +11,7 @@ flush-requires : tie.Need-flush-requires
 flush-requires c κs = search needs
 
 returns : tie.Need-returns
-returns c = record { place = rw (lt-leb (c .before .before .before .before .args .out .at + c .before .before .before .before .args .n) (length (c .before .before .before .before .args .room .now)) (omega arith)) (c .flush .ensures .none); failed = c .flush .ensures .failed }
+returns c = record { place = rw (lt-leb (c .before .before .before .before .args .out .at + c .before .before .before .before .args .n) (length (c .before .before .before .before .args .room .now)) (omega arith)) (c .flush .ensures .none); kept = omega arith }
 
 sub-if2 : tie.Need-sub-if2
 sub-if2 c = search needs
@@ -20,10 +20,10 @@ flush-requires-2 : tie.Need-flush-requires-2
 flush-requires-2 c κs = search needs
 
 returns-2 : tie.Need-returns-2
-returns-2 c = record { place = rw (lt-leb (c .before .before .before .before .before .before .args .out .at + c .before .before .before .before .before .before .args .n) (length (c .before .before .before .before .before .before .args .room .now)) (omega arith)) (c .flush2 .ensures .none); failed = c .flush2 .ensures .failed }
+returns-2 c = record { place = rw (lt-leb (c .before .before .before .before .before .before .args .out .at + c .before .before .before .before .before .before .args .n) (length (c .before .before .before .before .before .before .args .room .now)) (omega arith)) (c .flush2 .ensures .none); kept = omega arith }
 
 returns-3 : tie.Need-returns-3
-returns-3 c = record { place = rw (le-leb (c .before .before .before .before .before .args .out .at + c .before .before .before .before .before .args .n) (length (c .before .before .before .before .before .args .room .now)) (omega arith)); failed = λ e. e }
+returns-3 c = record { place = rw (le-leb (c .before .before .before .before .before .args .out .at + c .before .before .before .before .before .args .n) (length (c .before .before .before .before .before .args .room .now)) (omega arith)); kept = omega arith }
 
 pub ready-spec : {M : Type 1} → statement M
 ready-spec =

@@ -17,7 +17,7 @@ same-length : tie.Need-same-length
 same-length c = search needs
 
 returns : tie.Need-returns
-returns c = record { waits = λ h. absurd (omega arith); straight = λ h. (refl, refl); failed = λ e. c .hand-over .ensures (c .before .before .ready .ensures .failed e) }
+returns c = record { waits = λ h. absurd (omega arith); straight = λ h. (refl, refl); kept = omega arith }
 
 lay-requires : tie.Need-lay-requires
 lay-requires c κs = omega (arith, c .before .before .ready .ensures .place, place-fits (length (c .before .before .before .before .before .before .args .room .now)) (c .before .before .before .before .before .before .args .out .at) (length (c .before .before .before .before .before .before .args .bytes .now)) (omega arith))
@@ -26,7 +26,7 @@ same-length-2 : tie.Need-same-length-2
 same-length-2 c = search needs
 
 returns-2 : tie.Need-returns-2
-returns-2 c = record { waits = λ h. rw (← c .before .before .before .before .before .ready .ensures .place) (c .before .before .lay .ensures); straight = λ h. absurd (omega arith); failed = c .before .before .before .before .before .ready .ensures .failed }
+returns-2 c = record { waits = λ h. rw (← c .before .before .before .before .before .ready .ensures .place) (c .before .before .lay .ensures); straight = λ h. absurd (omega arith); kept = omega arith }
 
 pub text-spec : {M : Type 1} → statement M
 text-spec =
