@@ -1,0 +1,66 @@
+use Prim.Native.Nat.{_-_, _≤_}
+use mathlib.Core.Path.{_≡_, refl}
+use native.Mathlib.Omega.{arith}
+use lib.ListN.{length}
+use borrow.Author.Needs.{needs}
+use Rattle.laws.specs.Lists.{Filled, filled-more}
+use Rattle.rows.specs.Order.{idle, jobs}
+use Rattle.probe.specs.Layout.{rowAt}
+use Rattle.probe.proofs.layout.rows_of.Statement.{statement}
+use Rattle.probe.proofs.layout.rows_of.Tie as tie
+
+abbrev Inv-loop : tie.InvT-loop
+Inv-loop bytes rows₀ job₀ rows job = (job ≤ jobs) × (length rows ≡ jobs) × Filled (λ k r. r ≡ rowAt bytes k) idle rows job
+
+abbrev μ-loop : tie.MeasureT-loop
+μ-loop bytes rows₀ job₀ rows job = jobs - job
+
+idle-requires : tie.Need-idle-requires Inv-loop μ-loop
+idle-requires c κs = search needs
+
+loop-holds : tie.Need-loop-holds Inv-loop μ-loop
+loop-holds c = (search needs, refl, λ k h. absurd (omega arith))
+
+row-at-requires : tie.Need-row-at-requires Inv-loop μ-loop
+row-at-requires c κs = search needs
+
+mul-rows : tie.Need-mul-rows Inv-loop μ-loop
+mul-rows c = search needs
+
+array-set-from-rows : tie.Need-array-set-from-rows Inv-loop μ-loop
+array-set-from-rows c = search needs
+
+add-job : tie.Need-add-job Inv-loop μ-loop
+add-job c = search needs
+
+loop-less : tie.Need-loop-less Inv-loop μ-loop
+loop-less c = search needs
+
+loop-again : tie.Need-loop-again Inv-loop μ-loop
+loop-again c =
+    let a = c .before .before .before .before .args in
+    let at = c .before .before .loop in (
+      search needs,
+      search needs,
+      filled-more (λ k r. r ≡ rowAt (a .bytes .now) k) idle (at .rows) (at .job) (c .row-at .result) (search needs) (at .inv .2)
+          (c .row-at .ensures),
+    )
+
+returns : tie.Need-returns Inv-loop μ-loop
+returns c = λ k h. c .before .loop .inv .2 k (omega arith)
+
+pub rows-of-spec : {M : Type 1} → statement M
+rows-of-spec =
+    tie.close
+    (tie.spec
+    Inv-loop
+    μ-loop
+    idle-requires
+    loop-holds
+    row-at-requires
+    mul-rows
+    array-set-from-rows
+    add-job
+    loop-less
+    loop-again
+    returns)
