@@ -1,0 +1,136 @@
+// What a line says of a call before its answer, and the lists in it.
+ghost use Prim.Native.Nat.{_≤_};
+use event::Start;
+use event::Tick;
+use stream::Out;
+
+// How many resources there can be.
+const RESOURCES: u32 = 64;
+
+// Words and a number behind them.
+pub fn word(out: Out, room: &mut [u8], words: &[u8], n: u64) -> Out
+    ensures { λ r. ⌜ out .failures ≤ r .failures ⌝ }
+{
+    let begun = stream::text(out, room, words);
+    stream::number(begun, room, n)
+}
+
+// The tick, and what parts the call from its answer.
+fn at(out: Out, room: &mut [u8], tick: Tick) -> Out
+    ensures { λ r. ⌜ out .failures ≤ r .failures ⌝ }
+{
+    let told = word(out, room, b" tick ", tick.0 as u64);
+    stream::text(told, room, b": ")
+}
+
+// Resource `a`, if it is a member of the set, behind a brace or behind the member before it.
+fn member(out: Out, room: &mut [u8], set: u64, a: u32) -> Out
+    ensures { λ r. ⌜ out .failures ≤ r .failures ⌝ }
+{
+    if RESOURCES <= a {
+        return out;
+    }
+    if (set >> a) % 2 == 0 {
+        return out;
+    }
+    if set % (1u64 << a) == 0 {
+        return word(out, room, b"{", a as u64);
+    }
+    word(out, room, b",", a as u64)
+}
+
+// The members of a set, in ascending order.
+fn members(out: Out, room: &mut [u8], set: u64) -> Out
+    ensures { λ r. ⌜ out .failures ≤ r .failures ⌝ }
+{
+    let mut told = out;
+    let mut a = 0;
+    while a < RESOURCES {
+        told = member(told, room, set, a);
+        a += 1;
+    }
+    told
+}
+
+// A set in braces.
+fn braced(out: Out, room: &mut [u8], set: u64) -> Out
+    ensures { λ r. ⌜ out .failures ≤ r .failures ⌝ }
+{
+    if set == 0 {
+        return stream::text(out, room, b"{}");
+    }
+    let told = members(out, room, set);
+    stream::text(told, room, b"}")
+}
+
+// Entry i of a list, behind a bracket or behind the entry before it.
+fn entry(out: Out, room: &mut [u8], i: usize, n: u8) -> Out
+    ensures { λ r. ⌜ out .failures ≤ r .failures ⌝ }
+{
+    if i == 0 {
+        return word(out, room, b"[", n as u64);
+    }
+    word(out, room, b" ", n as u64)
+}
+
+// The entries of a list.
+fn entries(out: Out, room: &mut [u8], list: &[u8]) -> Out
+    ensures { λ r. ⌜ out .failures ≤ r .failures ⌝ }
+{
+    let mut told = out;
+    let mut i = 0;
+    while i < list.len() {
+        told = entry(told, room, i, list[i]);
+        i += 1;
+    }
+    told
+}
+
+// A list, and the line's end.
+pub fn list(out: Out, room: &mut [u8], list: &[u8]) -> Out
+    ensures { λ r. ⌜ out .failures ≤ r .failures ⌝ }
+{
+    if list.len() == 0 {
+        return stream::text(out, room, b"[]\n");
+    }
+    let told = entries(out, room, list);
+    stream::text(told, room, b"]\n")
+}
+
+// A call with a tick alone: `beat tick 5: `.
+pub fn timed(out: Out, room: &mut [u8], words: &[u8], tick: Tick) -> Out
+    ensures { λ r. ⌜ out .failures ≤ r .failures ⌝ }
+{
+    let named = stream::text(out, room, words);
+    at(named, room, tick)
+}
+
+// A call of a job: `complete 5 tick 7: `.
+pub fn job(out: Out, room: &mut [u8], words: &[u8], job: u32, tick: Tick) -> Out
+    ensures { λ r. ⌜ out .failures ≤ r .failures ⌝ }
+{
+    let named = word(out, room, words, job as u64);
+    at(named, room, tick)
+}
+
+// A call of a job with a set: `open 5 {0,3} tick 7: `.
+pub fn job_set(out: Out, room: &mut [u8], words: &[u8], job: u32, tick: Tick, set: u64) -> Out
+    ensures { λ r. ⌜ out .failures ≤ r .failures ⌝ }
+{
+    let named = word(out, room, words, job as u64);
+    let parted = stream::text(named, room, b" ");
+    let told = braced(parted, room, set);
+    at(told, room, tick)
+}
+
+// A start: `start T=2 R=64 limit 50 tick 1000: `.
+pub fn start(out: Out, room: &mut [u8], words: &[u8], start: Start) -> Out
+    ensures { λ r. ⌜ out .failures ≤ r .failures ⌝ }
+{
+    let named = stream::text(out, room, words);
+    let tokens = word(named, room, b"T=", start.tokens as u64);
+    let resources = word(tokens, room, b" R=", start.resources as u64);
+    let limit = word(resources, room, b" limit ", start.limit as u64);
+    let tick = start.tick;
+    at(limit, room, tick)
+}
