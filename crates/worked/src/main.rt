@@ -5,6 +5,9 @@ mod called;
 mod said;
 
 ghost use Prim.Native.Nat.{_≤_};
+ghost use mathlib.Core.Path.{_≡_};
+ghost use Rattle.event.specs.declared.said.Entry.the-variants as entry;
+ghost use Rattle.event.specs.declared.said.Event.the-variants as event;
 use arbiter::Table;
 use called::Now;
 use event::Entry;
@@ -23,47 +26,71 @@ const BOTH: u64 = 9_223_372_036_854_775_809;
 // A tick whose four bytes can be told apart.
 const TICK: u32 = 16_909_060;
 
-// T, R or the limit out of range: no start, and no table to go on with.
+// T or R out of range gives 1.
 fn refused_starts(s: Now, room: &mut [u8]) -> Now
     ensures { λ r. ⌜ s .out .failures ≤ r .out .failures ⌝ }
 {
     let a = called::start(s, room, 0, 1, 0, 1);
     let b = called::start(a, room, 65, 1, 0, 1);
-    let c = called::start(b, room, 1, 65, 0, 1);
-    let d = called::start(c, room, 1, 1, 0, 0);
-    called::open(d, room, 0, 0, FIRST)
+    called::start(b, room, 1, 65, 0, 1)
 }
 
-// Job 63 opens and 64 gives 4; set 0 gives 11.
-fn edges(s: Now, room: &mut [u8]) -> Now
+// A limit of 0 gives 1 too. A refused start leaves no table to go on with.
+fn no_limit(s: Now, room: &mut [u8]) -> Now
+    ensures { λ r. ⌜ s .out .failures ≤ r .out .failures ⌝ }
+{
+    let a = called::start(s, room, 1, 1, 0, 0);
+    called::open(a, room, 0, 0, FIRST)
+}
+
+// Job 63 opens and 64 gives 4.
+fn jobs(s: Now, room: &mut [u8]) -> Now
     ensures { λ r. ⌜ s .out .failures ≤ r .out .failures ⌝ }
 {
     let a = called::start(s, room, 2, 64, 1000, 50);
     let b = called::open(a, room, 63, 1001, BOTH);
-    let c = called::open(b, room, 64, 1001, FIRST);
-    called::open(c, room, 1, 1001, 0)
+    called::open(b, room, 64, 1001, FIRST)
 }
 
-// R = 64 takes resource 63. Asking {0} again while it is held gives 14; once released it may be asked for again.
+// Set 0 gives 11. R = 64 takes resource 63.
+fn sets(s: Now, room: &mut [u8]) -> Now
+    ensures { λ r. ⌜ s .out .failures ≤ r .out .failures ⌝ }
+{
+    let a = called::open(s, room, 1, 1001, 0);
+    called::ask(a, room, 63, 1002, LAST)
+}
+
+// Asking {0} again while it is held gives 14.
+fn held(s: Now, room: &mut [u8]) -> Now
+    ensures { λ r. ⌜ s .out .failures ≤ r .out .failures ⌝ }
+{
+    let a = called::ask(s, room, 63, 1003, FIRST);
+    called::ask(a, room, 63, 1004, FIRST)
+}
+
+// Once released it may be asked for again.
 fn again(s: Now, room: &mut [u8]) -> Now
     ensures { λ r. ⌜ s .out .failures ≤ r .out .failures ⌝ }
 {
-    let a = called::ask(s, room, 63, 1002, LAST);
-    let b = called::ask(a, room, 63, 1003, FIRST);
-    let c = called::ask(b, room, 63, 1004, FIRST);
-    let d = called::release(c, room, 63, 1005, FIRST);
-    called::ask(d, room, 63, 1006, FIRST)
+    let a = called::release(s, room, 63, 1005, FIRST);
+    called::ask(a, room, 63, 1006, FIRST)
 }
 
-// A second request waits for the first one, up to the limit of 50 ms and beyond.
+// A second request waits for the first one.
 fn waits(s: Now, room: &mut [u8]) -> Now
     ensures { λ r. ⌜ s .out .failures ≤ r .out .failures ⌝ }
 {
     let a = called::open(s, room, 1, 1007, FIRST);
     let b = called::ask(a, room, 1, 1008, FIRST);
-    let c = called::report(b, room, 1);
-    let d = called::overdue(c, room, 1057);
-    called::overdue(d, room, 1058)
+    called::report(b, room, 1)
+}
+
+// Its wait is below the limit of 50 ms, and then that limit.
+fn late(s: Now, room: &mut [u8]) -> Now
+    ensures { λ r. ⌜ s .out .failures ≤ r .out .failures ⌝ }
+{
+    let a = called::overdue(s, room, 1057);
+    called::overdue(a, room, 1058)
 }
 
 // The first completes while it holds {0,63}, and the second goes on.
@@ -72,20 +99,49 @@ fn completes(s: Now, room: &mut [u8]) -> Now
 {
     let a = called::complete(s, room, 63, 1059);
     let b = called::report(a, room, 63);
-    let c = called::report(b, room, 1);
-    called::complete(c, room, 1, 1060)
+    called::report(b, room, 1)
 }
 
-// R = 63 does not take resource 63.
+// The second completes, too. R = 63 does not take resource 63.
 fn narrower(s: Now, room: &mut [u8]) -> Now
     ensures { λ r. ⌜ s .out .failures ≤ r .out .failures ⌝ }
 {
-    let a = called::start(s, room, 1, 63, 0, 1);
-    called::open(a, room, 63, 0, LAST)
+    let a = called::complete(s, room, 1, 1060);
+    let b = called::start(a, room, 1, 63, 0, 1);
+    called::open(b, room, 63, 0, LAST)
+}
+
+// What is refused whatever the table.
+fn refusals(s: Now, room: &mut [u8]) -> Now
+    ensures { λ r. ⌜ s .out .failures ≤ r .out .failures ⌝ }
+{
+    let a = refused_starts(s, room);
+    let b = no_limit(a, room);
+    jobs(b, room)
+}
+
+// What one request does alone.
+fn alone(s: Now, room: &mut [u8]) -> Now
+    ensures { λ r. ⌜ s .out .failures ≤ r .out .failures ⌝ }
+{
+    let a = sets(s, room);
+    let b = held(a, room);
+    again(b, room)
+}
+
+// What two requests do.
+fn together(s: Now, room: &mut [u8]) -> Now
+    ensures { λ r. ⌜ s .out .failures ≤ r .out .failures ⌝ }
+{
+    let a = waits(s, room);
+    let b = late(a, room);
+    completes(b, room)
 }
 
 // A start to be written.
-fn start(tokens: u32, resources: u32, tick: u32, limit: u32) -> Entry {
+fn start(tokens: u32, resources: u32, tick: u32, limit: u32) -> Entry
+    ensures { λ r. ⌜ r ≡ entry.Start (record { tokens = tokens; resources = resources; tick = record { 0 = tick }; limit = limit }) ⌝ }
+{
     Entry::Start(Start {
         tokens,
         resources,
@@ -95,7 +151,9 @@ fn start(tokens: u32, resources: u32, tick: u32, limit: u32) -> Entry {
 }
 
 // An opening to be written.
-fn open(job: u32, tick: u32, set: u64) -> Entry {
+fn open(job: u32, tick: u32, set: u64) -> Entry
+    ensures { λ r. ⌜ r ≡ entry.Event (event.Open job (record { 0 = tick }) set) ⌝ }
+{
     Entry::Event(Event::Open {
         job,
         tick: Tick(tick),
@@ -103,41 +161,66 @@ fn open(job: u32, tick: u32, set: u64) -> Entry {
     })
 }
 
-// A start whose numbers do not fit is refused as 1 by the writer too, also where there is no room; limit 0 fits and is written.
+// Limit 0 fits and is written; T out of range gives 1.
 fn written_starts(out: Out, room: &mut [u8]) -> Out
     ensures { λ r. ⌜ out .failures ≤ r .failures ⌝ }
 {
     let a = called::write(out, room, start(64, 64, TICK, 0));
     let b = called::write(a, room, start(0, 1, 0, 1));
-    let c = called::write(b, room, start(65, 1, 0, 1));
-    let d = called::write(c, room, start(1, 65, 0, 1));
-    called::write_short(d, room, start(0, 1, 0, 1))
+    called::write(b, room, start(65, 1, 0, 1))
 }
 
-// Job 63 is written and 64 gives 4, also where there is no room; room under 14 gives 17.
-fn written_events(out: Out, room: &mut [u8]) -> Out
+// R out of range gives 1, and so does a start out of range where there is no room either; else that gives 17.
+fn short_starts(out: Out, room: &mut [u8]) -> Out
+    ensures { λ r. ⌜ out .failures ≤ r .failures ⌝ }
+{
+    let a = called::write(out, room, start(1, 65, 0, 1));
+    let b = called::write_short(a, room, start(0, 1, 0, 1));
+    called::write_short(b, room, start(1, 1, 0, 1))
+}
+
+// Job 63 is written and 64 gives 4.
+fn written_jobs(out: Out, room: &mut [u8]) -> Out
     ensures { λ r. ⌜ out .failures ≤ r .failures ⌝ }
 {
     let a = called::write(out, room, open(63, TICK, BOTH));
-    let b = called::write(a, room, open(64, TICK, BOTH));
-    let c = called::write_short(b, room, open(64, TICK, BOTH));
-    let d = called::write_short(c, room, open(63, TICK, BOTH));
-    called::write_short(d, room, start(1, 1, 0, 1))
+    called::write(a, room, open(64, TICK, BOTH))
+}
+
+// Job 64 gives 4 where there is no room either; else that gives 17.
+fn short_jobs(out: Out, room: &mut [u8]) -> Out
+    ensures { λ r. ⌜ out .failures ≤ r .failures ⌝ }
+{
+    let a = called::write_short(out, room, open(64, TICK, BOTH));
+    called::write_short(a, room, open(63, TICK, BOTH))
+}
+
+// Everything on tables.
+fn tables(out: Out, room: &mut [u8]) -> Out
+    ensures { λ r. ⌜ out .failures ≤ r .failures ⌝ }
+{
+    let begun = Table::start(0, 0, Tick(0), 0);
+    let table = begun.table;
+    let a = refusals(Now { out, table }, room);
+    let b = together(alone(a, room), room);
+    let last = narrower(b, room);
+    last.out
+}
+
+// Everything that is written.
+fn records(out: Out, room: &mut [u8]) -> Out
+    ensures { λ r. ⌜ out .failures ≤ r .failures ⌝ }
+{
+    let a = written_starts(out, room);
+    let b = short_starts(a, room);
+    let c = written_jobs(b, room);
+    short_jobs(c, room)
 }
 
 fn run(room: &mut [u8]) {
-    let begun = Table::start(0, 0, Tick(0), 0);
-    let table = begun.table;
-    let out = Out { at: 0, failures: 0 };
-    let a = refused_starts(Now { out, table }, room);
-    let b = edges(a, room);
-    let c = again(b, room);
-    let d = waits(c, room);
-    let e = completes(d, room);
-    let f = narrower(e, room);
-    let g = written_starts(f.out, room);
-    let h = written_events(g, room);
-    stream::flush(h, room);
+    let out = tables(Out { at: 0, failures: 0 }, room);
+    let told = records(out, room);
+    stream::flush(told, room);
 }
 
 fn main() {

@@ -33,7 +33,7 @@ fn member(out: Out, room: &mut [u8], set: u64, a: u32) -> Out
     if (set >> a) % 2 == 0 {
         return out;
     }
-    if set % (1u64 << a) == 0 {
+    if a == u64::trailing_zeros(set) {
         return word(out, room, b"{", a as u64);
     }
     word(out, room, b",", a as u64)
@@ -123,14 +123,21 @@ pub fn job_set(out: Out, room: &mut [u8], words: &[u8], job: u32, tick: Tick, se
     at(told, room, tick)
 }
 
+// T and R of a start.
+fn sizes(out: Out, room: &mut [u8], tokens: u32, resources: u32) -> Out
+    ensures { λ r. ⌜ out .failures ≤ r .failures ⌝ }
+{
+    let told = word(out, room, b"T=", tokens as u64);
+    word(told, room, b" R=", resources as u64)
+}
+
 // A start: `start T=2 R=64 limit 50 tick 1000: `.
 pub fn start(out: Out, room: &mut [u8], words: &[u8], start: Start) -> Out
     ensures { λ r. ⌜ out .failures ≤ r .failures ⌝ }
 {
     let named = stream::text(out, room, words);
-    let tokens = word(named, room, b"T=", start.tokens as u64);
-    let resources = word(tokens, room, b" R=", start.resources as u64);
-    let limit = word(resources, room, b" limit ", start.limit as u64);
+    let sized = sizes(named, room, start.tokens, start.resources);
+    let limit = word(sized, room, b" limit ", start.limit as u64);
     let tick = start.tick;
     at(limit, room, tick)
 }
