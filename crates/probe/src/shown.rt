@@ -26,28 +26,20 @@ pub fn number(out: Out, room: &mut [u8], n: u64) -> Out
     stream::text(numbered, room, b" ")
 }
 
-// A number behind what parts it from the one before.
-fn field(out: Out, room: &mut [u8], mark: &[u8], n: u64) -> Out
-    ensures { λ r. ⌜ out .failures ≤ r .failures ⌝ }
-{
-    let parted = stream::text(out, room, mark);
-    stream::number(parted, room, n)
-}
-
 // Three numbers, each behind the mark.
 fn three(out: Out, room: &mut [u8], mark: &[u8], a: u64, b: u64, c: u64) -> Out
     ensures { λ r. ⌜ out .failures ≤ r .failures ⌝ }
 {
-    let one = field(out, room, mark, a);
-    let two = field(one, room, mark, b);
-    field(two, room, mark, c)
+    let one = stream::word(out, room, mark, a);
+    let two = stream::word(one, room, mark, b);
+    stream::word(two, room, mark, c)
 }
 
 // A line of a word and a number.
 fn counted(out: Out, room: &mut [u8], word: &[u8], n: u32) -> Out
     ensures { λ r. ⌜ out .failures ≤ r .failures ⌝ }
 {
-    let told = field(out, room, word, n as u64);
+    let told = stream::word(out, room, word, n as u64);
     end(told, room)
 }
 
@@ -106,7 +98,7 @@ fn request(out: Out, room: &mut [u8], report: Report) -> Out
     let turn = report.turn;
     let token = bit(report.token);
     let waiting = bit(report.waiting);
-    let begun = field(out, room, b"report ", turn.0);
+    let begun = stream::word(out, room, b"report ", turn.0);
     let told = three(begun, room, b" ", token, waiting, report.ahead as u64);
     counted(told, room, b" ", report.in_way)
 }
@@ -121,32 +113,13 @@ pub fn reported(out: Out, room: &mut [u8], reported: Reported) -> Out
     }
 }
 
-// An entry of a list.
-fn entry(out: Out, room: &mut [u8], n: u8) -> Out
-    ensures { λ r. ⌜ out .failures ≤ r .failures ⌝ }
-{
-    field(out, room, b" ", n as u64)
-}
-
-// Every entry of a list, and the line's end.
-fn entries(out: Out, room: &mut [u8], list: &[u8]) -> Out
-    ensures { λ r. ⌜ out .failures ≤ r .failures ⌝ }
-{
-    let mut told = out;
-    let mut i = 0;
-    while i < list.len() {
-        told = entry(told, room, list[i]);
-        i += 1;
-    }
-    end(told, room)
-}
-
 // The line of a lent list.
 pub fn list(out: Out, room: &mut [u8], list: &[u8]) -> Out
     ensures { λ r. ⌜ out .failures ≤ r .failures ⌝ }
 {
     let named = stream::text(out, room, b"list");
-    entries(named, room, list)
+    let told = stream::bytes(named, room, list);
+    end(told, room)
 }
 
 // The numbers of a row that are not all 0.
@@ -157,10 +130,10 @@ fn row(out: Out, room: &mut [u8], job: u64, row: Row) -> Out
     if turn.0 | row.declared | row.held | row.asked | row.since == 0 {
         return out;
     }
-    let named = field(out, room, b" ", job);
-    let begun = field(named, room, b":", turn.0);
+    let named = stream::word(out, room, b" ", job);
+    let begun = stream::word(named, room, b":", turn.0);
     let told = three(begun, room, b",", row.declared, row.held, row.asked);
-    field(told, room, b",", row.since)
+    stream::word(told, room, b",", row.since)
 }
 
 // The rows that are not all 0, and the line's end.
@@ -185,8 +158,8 @@ pub fn table(out: Out, room: &mut [u8], table: Table) -> Out
     let all = table.rows;
     let tokens = table.tokens as u64;
     let resources = table.resources as u64;
-    let begun = field(out, room, b"table ", tokens);
+    let begun = stream::word(out, room, b"table ", tokens);
     let told = three(begun, room, b" ", resources, table.limit as u64, table.time);
-    let headed = field(told, room, b" ", last.0);
+    let headed = stream::word(told, room, b" ", last.0);
     rows(headed, room, all)
 }

@@ -6,6 +6,8 @@ mod print;
 pub use input::Piece;
 pub use input::fill;
 pub use print::Out;
+pub use print::bytes;
 pub use print::flush;
 pub use print::number;
 pub use print::text;
+pub use print::word;

@@ -97,3 +97,31 @@ pub fn number(out: Out, room: &mut [u8], n: u64) -> Out
     let end = decimal::write(n, &mut digits, 0);
     text(out, room, &digits[..end])
 }
+
+// Prints words and a number behind them.
+pub fn word(out: Out, room: &mut [u8], words: &[u8], n: u64) -> Out
+    ensures { λ r. ⌜ out .failures ≤ r .failures ⌝ }
+{
+    let begun = text(out, room, words);
+    number(begun, room, n)
+}
+
+// Prints a byte as a number behind a space.
+fn spaced(out: Out, room: &mut [u8], byte: u8) -> Out
+    ensures { λ r. ⌜ out .failures ≤ r .failures ⌝ }
+{
+    word(out, room, b" ", byte as u64)
+}
+
+// Prints each byte of a list as a number behind a space.
+pub fn bytes(out: Out, room: &mut [u8], list: &[u8]) -> Out
+    ensures { λ r. ⌜ out .failures ≤ r .failures ⌝ }
+{
+    let mut told = out;
+    let mut i = 0;
+    while i < list.len() {
+        told = spaced(told, room, list[i]);
+        i += 1;
+    }
+    told
+}

@@ -1,6 +1,5 @@
 // What a line says of an answer.
 ghost use Prim.Native.Nat.{_≤_};
-use crate::said;
 use arbiter::Answer;
 use arbiter::Late;
 use arbiter::Report;
@@ -8,6 +7,14 @@ use arbiter::Reported;
 use event::Refusal;
 use record::Writing;
 use stream::Out;
+
+// A list and the line's end.
+fn list(out: Out, room: &mut [u8], list: &[u8]) -> Out
+    ensures { λ r. ⌜ out .failures ≤ r .failures ⌝ }
+{
+    let told = stream::bytes(out, room, list);
+    stream::text(told, room, b"\n")
+}
 
 // A word and the line's end.
 fn plain(out: Out, room: &mut [u8], word: &[u8]) -> Out
@@ -21,7 +28,7 @@ fn plain(out: Out, room: &mut [u8], word: &[u8]) -> Out
 fn no(out: Out, room: &mut [u8], refusal: Refusal) -> Out
     ensures { λ r. ⌜ out .failures ≤ r .failures ⌝ }
 {
-    let told = said::word(out, room, b"no ", event::number(refusal) as u64);
+    let told = stream::word(out, room, b"no ", event::number(refusal) as u64);
     stream::text(told, room, b"\n")
 }
 
@@ -31,17 +38,17 @@ fn front(out: Out, room: &mut [u8], list: &[u8], count: u32) -> Out
 {
     let n = count as usize;
     if list.len() < n {
-        return said::list(out, room, list);
+        return self::list(out, room, list);
     }
-    said::list(out, room, &list[..n])
+    self::list(out, room, &list[..n])
 }
 
 // How many jobs a lent list names, and which.
 fn jobs(out: Out, room: &mut [u8], word: &[u8], count: u32, list: &[u8]) -> Out
     ensures { λ r. ⌜ out .failures ≤ r .failures ⌝ }
 {
-    let told = said::word(out, room, word, count as u64);
-    let parted = stream::text(told, room, b" ");
+    let told = stream::word(out, room, word, count as u64);
+    let parted = stream::text(told, room, b", jobs");
     front(parted, room, list, count)
 }
 
@@ -83,8 +90,8 @@ fn either(out: Out, room: &mut [u8], first: bool, yes: &[u8], not: &[u8]) -> Out
 fn before(out: Out, room: &mut [u8], report: Report) -> Out
     ensures { λ r. ⌜ out .failures ≤ r .failures ⌝ }
 {
-    let ahead = said::word(out, room, b"", report.ahead as u64);
-    let told = said::word(ahead, room, b" ahead, ", report.in_way as u64);
+    let ahead = stream::word(out, room, b"", report.ahead as u64);
+    let told = stream::word(ahead, room, b" ahead, ", report.in_way as u64);
     stream::text(told, room, b" in the way\n")
 }
 
@@ -93,7 +100,7 @@ fn request(out: Out, room: &mut [u8], report: Report) -> Out
     ensures { λ r. ⌜ out .failures ≤ r .failures ⌝ }
 {
     let turn = report.turn;
-    let begun = said::word(out, room, b"turn ", turn.0);
+    let begun = stream::word(out, room, b"turn ", turn.0);
     let token = either(begun, room, report.token, b", token, ", b", no token, ");
     let waiting = either(token, room, report.waiting, b"waiting, ", b"not waiting, ");
     before(waiting, room, report)
@@ -115,13 +122,13 @@ pub fn writing(out: Out, room: &mut [u8], writing: Writing, bytes: &[u8]) -> Out
 {
     match writing {
         Writing::No(refusal) => {
-            let told = said::word(out, room, b"no ", event::number(refusal) as u64);
-            let parted = stream::text(told, room, b" ");
-            said::list(parted, room, bytes)
+            let told = stream::word(out, room, b"no ", event::number(refusal) as u64);
+            let parted = stream::text(told, room, b", room");
+            self::list(parted, room, bytes)
         }
         Writing::Done => {
-            let told = stream::text(out, room, b"wrote ");
-            said::list(told, room, bytes)
+            let told = stream::text(out, room, b"wrote, room");
+            self::list(told, room, bytes)
         }
     }
 }

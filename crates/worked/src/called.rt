@@ -89,7 +89,7 @@ pub fn report(s: Now, room: &mut [u8], job: u32) -> Now
 {
     let out = s.out;
     let table = s.table;
-    let named = said::word(out, room, b"report ", job as u64);
+    let named = stream::word(out, room, b"report ", job as u64);
     let parted = stream::text(named, room, b": ");
     let told = answered::report(parted, room, table.report(job));
     Now { out: told, table }
@@ -134,7 +134,7 @@ fn entry(out: Out, room: &mut [u8], entry: Entry) -> Out
 fn written(out: Out, room: &mut [u8], asked: Entry, bytes: &mut [u8]) -> Out
     ensures { λ r. ⌜ out .failures ≤ r .failures ⌝ }
 {
-    let named = said::word(out, room, b"write into ", bytes.len() as u64);
+    let named = stream::word(out, room, b"write into ", bytes.len() as u64);
     let parted = stream::text(named, room, b" bytes, ");
     let told = entry(parted, room, asked);
     let writing = record::write(asked, bytes);

@@ -1,4 +1,4 @@
-// What a line says of a call before its answer, and the lists in it.
+// What a line says of a call before its answer.
 ghost use Prim.Native.Nat.{_≤_};
 use event::Start;
 use event::Tick;
@@ -7,19 +7,11 @@ use stream::Out;
 // How many resources there can be.
 const RESOURCES: u32 = 64;
 
-// Words and a number behind them.
-pub fn word(out: Out, room: &mut [u8], words: &[u8], n: u64) -> Out
-    ensures { λ r. ⌜ out .failures ≤ r .failures ⌝ }
-{
-    let begun = stream::text(out, room, words);
-    stream::number(begun, room, n)
-}
-
 // The tick, and what parts the call from its answer.
 fn at(out: Out, room: &mut [u8], tick: Tick) -> Out
     ensures { λ r. ⌜ out .failures ≤ r .failures ⌝ }
 {
-    let told = word(out, room, b" tick ", tick.0 as u64);
+    let told = stream::word(out, room, b" tick ", tick.0 as u64);
     stream::text(told, room, b": ")
 }
 
@@ -34,9 +26,9 @@ fn member(out: Out, room: &mut [u8], set: u64, a: u32) -> Out
         return out;
     }
     if a == u64::trailing_zeros(set) {
-        return word(out, room, b"{", a as u64);
+        return stream::word(out, room, b"{", a as u64);
     }
-    word(out, room, b",", a as u64)
+    stream::word(out, room, b",", a as u64)
 }
 
 // The members of a set, in ascending order.
@@ -63,40 +55,6 @@ fn braced(out: Out, room: &mut [u8], set: u64) -> Out
     stream::text(told, room, b"}")
 }
 
-// Entry i of a list, behind a bracket or behind the entry before it.
-fn entry(out: Out, room: &mut [u8], i: usize, n: u8) -> Out
-    ensures { λ r. ⌜ out .failures ≤ r .failures ⌝ }
-{
-    if i == 0 {
-        return word(out, room, b"[", n as u64);
-    }
-    word(out, room, b" ", n as u64)
-}
-
-// The entries of a list.
-fn entries(out: Out, room: &mut [u8], list: &[u8]) -> Out
-    ensures { λ r. ⌜ out .failures ≤ r .failures ⌝ }
-{
-    let mut told = out;
-    let mut i = 0;
-    while i < list.len() {
-        told = entry(told, room, i, list[i]);
-        i += 1;
-    }
-    told
-}
-
-// A list, and the line's end.
-pub fn list(out: Out, room: &mut [u8], list: &[u8]) -> Out
-    ensures { λ r. ⌜ out .failures ≤ r .failures ⌝ }
-{
-    if list.len() == 0 {
-        return stream::text(out, room, b"[]\n");
-    }
-    let told = entries(out, room, list);
-    stream::text(told, room, b"]\n")
-}
-
 // A call with a tick alone: `beat tick 5: `.
 pub fn timed(out: Out, room: &mut [u8], words: &[u8], tick: Tick) -> Out
     ensures { λ r. ⌜ out .failures ≤ r .failures ⌝ }
@@ -109,7 +67,7 @@ pub fn timed(out: Out, room: &mut [u8], words: &[u8], tick: Tick) -> Out
 pub fn job(out: Out, room: &mut [u8], words: &[u8], job: u32, tick: Tick) -> Out
     ensures { λ r. ⌜ out .failures ≤ r .failures ⌝ }
 {
-    let named = word(out, room, words, job as u64);
+    let named = stream::word(out, room, words, job as u64);
     at(named, room, tick)
 }
 
@@ -117,7 +75,7 @@ pub fn job(out: Out, room: &mut [u8], words: &[u8], job: u32, tick: Tick) -> Out
 pub fn job_set(out: Out, room: &mut [u8], words: &[u8], job: u32, tick: Tick, set: u64) -> Out
     ensures { λ r. ⌜ out .failures ≤ r .failures ⌝ }
 {
-    let named = word(out, room, words, job as u64);
+    let named = stream::word(out, room, words, job as u64);
     let parted = stream::text(named, room, b" ");
     let told = braced(parted, room, set);
     at(told, room, tick)
@@ -127,8 +85,8 @@ pub fn job_set(out: Out, room: &mut [u8], words: &[u8], job: u32, tick: Tick, se
 fn sizes(out: Out, room: &mut [u8], tokens: u32, resources: u32) -> Out
     ensures { λ r. ⌜ out .failures ≤ r .failures ⌝ }
 {
-    let told = word(out, room, b"T=", tokens as u64);
-    word(told, room, b" R=", resources as u64)
+    let told = stream::word(out, room, b"T=", tokens as u64);
+    stream::word(told, room, b" R=", resources as u64)
 }
 
 // A start: `start T=2 R=64 limit 50 tick 1000: `.
@@ -137,7 +95,7 @@ pub fn start(out: Out, room: &mut [u8], words: &[u8], start: Start) -> Out
 {
     let named = stream::text(out, room, words);
     let sized = sizes(named, room, start.tokens, start.resources);
-    let limit = word(sized, room, b" limit ", start.limit as u64);
+    let limit = stream::word(sized, room, b" limit ", start.limit as u64);
     let tick = start.tick;
     at(limit, room, tick)
 }

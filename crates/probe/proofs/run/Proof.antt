@@ -1,3 +1,4 @@
+-- The numbers that are left fall at each turn.
 use Prim.Native.Nat.{_-_, _^_, _≤_}
 use mathlib.Core.Path.{_≡_}
 use native.Mathlib.Omega.{arith}

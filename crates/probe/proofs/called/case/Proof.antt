@@ -1,3 +1,4 @@
+-- A length of 16 bits is below that of the array.
 use mathlib.Core.Path.{sym}
 use native.Mathlib.Omega.{arith}
 use lib.Seq.{length-take-le}

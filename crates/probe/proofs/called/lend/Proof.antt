@@ -1,3 +1,4 @@
+-- The loop keeps the list's length.
 use Prim.Native.Nat.{_-_}
 use mathlib.Core.Path.{_≡_}
 use lib.ListN.{length}

@@ -1,3 +1,4 @@
+-- Field by field.
 use borrow.Author.Needs.{needs}
 use Rattle.probe.proofs.layout.row_at.Statement.{statement}
 use Rattle.probe.proofs.layout.row_at.Tie as tie

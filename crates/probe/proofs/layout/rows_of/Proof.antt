@@ -1,3 +1,4 @@
+-- The loop keeps that the rows before the present job are those of the bytes.
 use Prim.Native.Nat.{_-_, _≤_}
 use mathlib.Core.Path.{_≡_, refl}
 use native.Mathlib.Omega.{arith}
