@@ -1,4 +1,4 @@
--- Where a case's numbers stand in its bytes, counted in bits.
+-- Where a case's numbers stand in its bytes, counted in bits, and what a writing call writes.
 use Prim.Native.Nat.{ℕ, _+_, _*_, _%_}
 use mathlib.Core.Bool.{cond}
 use mathlib.Core.List.{List}
