@@ -33,6 +33,17 @@ const SOUND: Plan = Plan {
     no_table: 5,
 };
 
+const MIXED: Plan = Plan {
+    built: 60,
+    late: 30,
+    last: 30,
+    damaged: 30,
+    random: 10,
+    short: 40,
+    odd_set: 60,
+    no_table: 25,
+};
+
 /// Every kind with its plan.
 const PLANS: [(&str, Plan); 11] = [
     ("sound", SOUND),
@@ -101,19 +112,7 @@ const PLANS: [(&str, Plan); 11] = [
             ..SOUND
         },
     ),
-    (
-        "mixed",
-        Plan {
-            built: 60,
-            late: 30,
-            last: 30,
-            damaged: 30,
-            random: 10,
-            short: 40,
-            odd_set: 60,
-            no_table: 25,
-        },
-    ),
+    ("mixed", MIXED),
 ];
 
 pub fn kinds() -> impl Iterator<Item = &'static str> {
@@ -128,14 +127,20 @@ pub fn make(kind: &str, seed: u64, count: u64) -> Option<impl Iterator<Item = Ve
     let mut walk = Walk::new();
     let total = count + u64::from(kind == "cut");
     Some((0..total).map(move |place| {
-        let table = table(&mut random, plan, &mut walk);
-        let bytes = case(&mut random, plan, table).to_bytes();
+        let bytes = case(&mut random, plan, &mut walk).to_bytes();
         if place == count {
             spoil(&mut random, bytes)
         } else {
             bytes
         }
     }))
+}
+
+/// The cases of a `mixed` row, without end.
+pub fn mixed(seed: u64) -> impl Iterator<Item = Case> {
+    let mut random = Random::new(seed);
+    let mut walk = Walk::new();
+    std::iter::from_fn(move || Some(case(&mut random, &MIXED, &mut walk)))
 }
 
 /// Part of the case, or the case with a call that doesn't exist and itself behind it.
@@ -175,7 +180,8 @@ fn table(random: &mut Random, plan: &Plan, walk: &mut Walk) -> Table {
     table
 }
 
-fn case(random: &mut Random, plan: &Plan, table: Table) -> Case {
+fn case(random: &mut Random, plan: &Plan, walk: &mut Walk) -> Case {
+    let table = table(random, plan, walk);
     let call = if chance(random, plan.no_table) {
         random.pick(&CALLS[7..])
     } else {

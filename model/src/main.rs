@@ -5,11 +5,13 @@
 //! model probe < cases > output
 //! model make-recording KIND SEED COUNT > recording
 //! model make-cases KIND SEED COUNT > cases
-//! model tally < cases
+//! model record < lines > recording
+//! model questions < lines > cases
+//! model tally FILE...
 //! model tally-recordings FILE...
 //! ```
 //!
-//! Both tallies exit with 1 if something was never met. Wrong arguments, and
+//! `make-cases each` makes cases until the tally has met all so often. Both tallies exit with 1 if something was never met. Wrong arguments, and
 //! input or output that fails, exit with 2.
 
 mod answer;
@@ -18,6 +20,7 @@ mod case;
 mod cases;
 mod clock;
 mod drive;
+mod lines;
 mod probe;
 mod random;
 mod record;
@@ -61,17 +64,23 @@ fn run(arguments: &[&str]) -> io::Result<bool> {
             let recording = recordings::make(kind, number(seed)?, number(count)?);
             put_out([recording.ok_or_else(wrong)?], out)
         }
+        ["make-cases", "each", seed, count] => {
+            put_out(tally::each(number(seed)?, number(count)?), out)
+        }
         ["make-cases", kind, seed, count] => {
             let cases = cases::make(kind, number(seed)?, number(count)?);
             put_out(cases.ok_or_else(wrong)?, out)
         }
-        ["tally"] => tally::of_cases(input, out),
-        ["tally-recordings", ref files @ ..] => {
-            let recordings: io::Result<Vec<_>> = files.iter().map(fs::read).collect();
-            tally::of_recordings(&recordings?, out)
-        }
+        ["record"] => put_out([lines::recording(&io::read_to_string(input)?)?], out),
+        ["questions"] => put_out(lines::questions(&io::read_to_string(input)?)?, out),
+        ["tally", ref files @ ..] => tally::of_cases(&read(files)?, out),
+        ["tally-recordings", ref files @ ..] => tally::of_recordings(&read(files)?, out),
         _ => Err(wrong()),
     }
+}
+
+fn read(files: &[&str]) -> io::Result<Vec<Vec<u8>>> {
+    files.iter().map(fs::read).collect()
 }
 
 fn put_out(pieces: impl IntoIterator<Item = Vec<u8>>, mut out: impl Write) -> io::Result<bool> {
@@ -94,9 +103,10 @@ fn usage() -> String {
     let recordings: Vec<&str> = recordings::kinds().collect();
     let cases: Vec<&str> = cases::kinds().collect();
     format!(
-        "arguments: replay | probe | tally | tally-recordings FILE...\n\
+        "arguments: replay | probe | record | questions\n\
+         tally FILE... | tally-recordings FILE...\n\
          make-recording KIND SEED COUNT, KIND one of {}\n\
-         make-cases KIND SEED COUNT, KIND one of {}",
+         make-cases KIND SEED COUNT, KIND one of each {}",
         recordings.join(" "),
         cases.join(" ")
     )

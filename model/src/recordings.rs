@@ -76,7 +76,8 @@ pub fn kinds() -> impl Iterator<Item = &'static str> {
 /// The seed steps through the edges, so that a row of seeds meets them all: a `cut`
 /// one has seed modulo 14 bytes more; a `block` one has `count` times 4681 records,
 /// less one to more one by seed modulo 3, and (seed / 3) modulo 14 bytes more; a
-/// `first` one has one of six bad beginnings by seed modulo 6.
+/// `first` one has one of seven bad beginnings by seed modulo 7, the last of them
+/// (seed / 7) modulo 14 bytes and no more.
 pub fn make(kind: &str, seed: u64, count: u64) -> Option<Vec<u8>> {
     let (_, plan) = PLANS.iter().find(|(name, _)| *name == kind)?;
     let mut random = Random::new(seed);
@@ -143,7 +144,7 @@ fn flip(record: &mut [u8; LENGTH], bit: u64) {
 /// ones, or ends the recording within it.
 fn spoil_first(random: &mut Random, mut bytes: Vec<u8>, seed: u64) -> Vec<u8> {
     let mut record = start(random, &PLANS[0].1);
-    match seed % 6 {
+    match seed % 7 {
         0 => record = record::write(&drive::event(random, &Table::zero(), &PLANS[0].1.style)),
         // A limit of 0.
         1 => record[6..10].fill(0),
@@ -151,7 +152,11 @@ fn spoil_first(random: &mut Random, mut bytes: Vec<u8>, seed: u64) -> Vec<u8> {
         2 => flip(&mut record, random.pick(&[15, 80, 111])),
         3 => record[0] |= 64,
         4 => record.fill_with(|| random.number() as u8),
-        _ => return record[..(seed / 6 % 14) as usize].to_vec(),
+        5 => {
+            record[6..10].fill(0);
+            flip(&mut record, 111);
+        }
+        _ => return record[..(seed / 7 % 14) as usize].to_vec(),
     }
     let first = bytes.len().min(LENGTH);
     bytes.splice(..first, record);

@@ -5,6 +5,7 @@ use crate::arbiter::Arbiter;
 use crate::case::{Call, Case, CALLS, CASE};
 use crate::clock::{forward, TOP};
 use crate::drive::{self, Style};
+use crate::lines;
 use crate::random::Random;
 use crate::record::{self, Record, LENGTH};
 use crate::replay::{self, case_of};
@@ -12,6 +13,7 @@ use crate::set::{to_number, Set};
 use crate::sound::is_sound;
 use crate::table::Table;
 use crate::tables;
+use crate::tally;
 
 /// A table on its way through calls, which are answered as the probe prints it.
 struct Session(Table);
@@ -398,4 +400,34 @@ fn a_case_reads_back_from_its_bytes() {
         let back = Case::from_bytes(&bytes).expect("a call that exists");
         assert_eq!(format!("{back:?}"), format!("{case:?}"));
     }
+}
+
+#[test]
+fn lines_stand_for_records_and_questions() {
+    let text = "# nothing\nopen 5 16909060 9 # P1\n\nreport 5\nbytes ff 0\n";
+    let p1 = [0x22, 0x80, 1, 2, 3, 4, 0, 0, 0, 0, 0, 0, 0, 9];
+    let bytes = lines::recording(text).expect("good lines");
+    assert_eq!(bytes, [&p1[..], &[255, 0]].concat());
+    let text = "start 2 1 0 50\nopen 5 7 1\noverdue 9\nopen 6 8 1\n";
+    let cases = lines::questions(text).expect("good lines");
+    let bytes = cases[0].as_slice().try_into().expect("one length for all");
+    let case = Case::from_bytes(bytes).expect("a call that exists");
+    assert_eq!((case.call, case.tick), (Call::Overdue, 9));
+    // As the table is there: with one request.
+    assert_eq!((case.table.time, case.table.last_turn), (7, 1));
+    for wrong in [
+        "open 64 0 1",
+        "start 0 1 0 1",
+        "beat",
+        "beat 4294967296",
+        "bytes 100",
+    ] {
+        assert!(lines::recording(wrong).is_err(), "{wrong}");
+    }
+}
+
+#[test]
+fn each_thing_to_meet_is_met_as_often_as_asked() {
+    let row: Vec<u8> = tally::each(1, 2).flatten().collect();
+    assert!(tally::of_cases(&[row], std::io::sink()).expect("no output fails"));
 }

@@ -2,13 +2,14 @@
 
 use crate::answer::{answer, Answer};
 use crate::case::{Call, Case, CALLS};
+use crate::cases;
 use crate::probe::{next_case, Next};
 use crate::record::{self, Record};
 use crate::refuse;
 use crate::replay::{walk, Said};
 use crate::sound;
 use std::collections::BTreeMap;
-use std::io::{self, Read, Write};
+use std::io::{self, Write};
 
 /// How often each thing was met.
 #[derive(Default)]
@@ -19,12 +20,16 @@ impl Tally {
         *self.0.entry(what).or_default() += 1;
     }
 
+    fn of(&self, what: &str) -> u64 {
+        self.0.get(what).copied().unwrap_or(0)
+    }
+
     /// Prints the counts of all that was to be met, then what never was and what
     /// should not have been. True if there is neither.
     fn print(&self, expected: &[String], mut out: impl Write) -> io::Result<bool> {
         let mut missing = Vec::new();
         for what in expected {
-            let count = self.0.get(what).copied().unwrap_or(0);
+            let count = self.of(what);
             writeln!(out, "{what}: {count}")?;
             if count == 0 {
                 missing.push(what);
@@ -135,28 +140,32 @@ fn expected_of_cases() -> Vec<String> {
     expected
 }
 
-fn count_case(tally: &mut Tally, case: &Case) {
+/// All that a case meets.
+fn met_by(case: &Case) -> Vec<String> {
     let call = case.call;
     let mut applying = refuse::applying(case);
     let Some(given) = applying.next() else {
-        tally.count(format!("answer {}", name(call, &answer(case).answer)));
-        return;
+        return vec![format!("answer {}", name(call, &answer(case).answer))];
     };
-    tally.count(format!("refusal {call} {given}"));
-    for other in applying {
-        tally.count(format!("together {call} {given} {other}"));
-    }
+    let mut met = vec![format!("refusal {call} {given}")];
+    met.extend(applying.map(|other| format!("together {call} {given} {other}")));
     if let (3, [clause]) = (given, sound::broken(&case.table).as_slice()) {
-        tally.count(format!("only broken {clause}"));
+        met.push(format!("only broken {clause}"));
     }
+    met
 }
 
-/// Counts a row of cases: answers, refusals, those that apply together with the
+/// Counts rows of cases: answers, refusals, those that apply together with the
 /// one given, and the clauses of soundness that are the only one broken.
-pub fn of_cases(mut input: impl Read, mut out: impl Write) -> io::Result<bool> {
+pub fn of_cases(rows: &[Vec<u8>], mut out: impl Write) -> io::Result<bool> {
     let mut tally = Tally::default();
-    while let Next::Case(case) = next_case(&mut input)? {
-        count_case(&mut tally, &case);
+    let mut counted = 0_u64;
+    for row in rows {
+        let mut input = row.as_slice();
+        while let Next::Case(case) = next_case(&mut input)? {
+            counted += 1;
+            met_by(&case).into_iter().for_each(|what| tally.count(what));
+        }
     }
     for call in CALLS {
         for (low, high) in pairs(call) {
@@ -165,7 +174,27 @@ pub fn of_cases(mut input: impl Read, mut out: impl Write) -> io::Result<bool> {
             }
         }
     }
+    writeln!(out, "counted {counted}")?;
     tally.print(&expected_of_cases(), out)
+}
+
+/// Of mixed cases those that are among the first `count` to meet something, until
+/// all has been met so often; not forever, should something be out of reach.
+pub fn each(seed: u64, count: u64) -> impl Iterator<Item = Vec<u8>> {
+    let expected = expected_of_cases();
+    let mut tally = Tally::default();
+    let mut mixed = cases::mixed(seed).take(2_000_000);
+    std::iter::from_fn(move || loop {
+        if expected.iter().all(|what| tally.of(what) >= count) {
+            return None;
+        }
+        let case = mixed.next()?;
+        let met = met_by(&case);
+        if met.iter().any(|what| tally.of(what) < count) {
+            met.into_iter().for_each(|what| tally.count(what));
+            return Some(case.to_bytes());
+        }
+    })
 }
 
 /// Refusals that no recording of a handy length can bring about: its jobs fit 6
@@ -190,6 +219,8 @@ fn expected_of_recordings() -> Vec<String> {
     let mut expected: Vec<String> = answers.map(String::from).into();
     expected.extend([1, 17, 18, 19, 20].map(|number| format!("first no {number}")));
     expected.extend([17, 18, 19].map(|number| format!("unreadable no {number}")));
+    let pairs = ["first 19 20", "first 19 1", "later 19 20", "later 20 1"];
+    expected.extend(pairs.map(|pair| format!("together {pair}")));
     for call in &CALLS[..5] {
         let listed = refuse::listed(*call).iter();
         let met = listed.filter(|number| !NOT_IN_REPLAY.contains(number));
@@ -211,14 +242,33 @@ fn name_record(started: bool, bytes: &[u8], said: &Said) -> String {
     }
 }
 
+/// Of reading's refusals, 20 and 1, the next that applies to the record as well.
+/// (What 17 and 18 refuse is never a start, so with them there is nothing to tell.)
+fn together(started: bool, bytes: &[u8], said: &Said) -> Option<String> {
+    let start = bytes.first().is_some_and(|byte| byte >> 5 == 5);
+    let no_limit = start && bytes.get(6..10) == Some(&[0; 4]);
+    let place = if started { "later" } else { "first" };
+    let pair = match said {
+        Said::No(19) if start == started => "19 20",
+        Said::No(19) if no_limit => "19 1",
+        Said::No(20) if no_limit => "20 1",
+        _ => return None,
+    };
+    Some(format!("together {place} {pair}"))
+}
+
 /// Counts what the listings of these recordings say of each kind of record.
-pub fn of_recordings(recordings: &[Vec<u8>], out: impl Write) -> io::Result<bool> {
+pub fn of_recordings(recordings: &[Vec<u8>], mut out: impl Write) -> io::Result<bool> {
     let mut tally = Tally::default();
+    let mut counted = 0_u64;
     for recording in recordings {
         walk(recording.as_slice(), |started, bytes, said| {
+            counted += 1;
             tally.count(name_record(started, bytes, said));
+            together(started, bytes, said).map(|pair| tally.count(pair));
             Ok(())
         })?;
     }
+    writeln!(out, "counted {counted}")?;
     tally.print(&expected_of_recordings(), out)
 }
