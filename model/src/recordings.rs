@@ -42,7 +42,7 @@ const fn plan(jobs: u64, steps: &'static [u64], wild: u64) -> Plan {
 }
 
 /// Every kind with its plan.
-const PLANS: [(&str, Plan); 9] = [
+const PLANS: [(&str, Plan); 10] = [
     ("lively", plan(12, CALM, 40)),
     (
         "damaged",
@@ -54,6 +54,8 @@ const PLANS: [(&str, Plan); 9] = [
     ("ticks", plan(12, HALVES, 12)),
     ("crowd", plan(64, CALM, 12)),
     ("few", plan(2, CALM, 4)),
+    // One tick for all, so that copies of it behind each other are no mere refusals.
+    ("still", plan(12, &[0], 40)),
     (
         "corner",
         Plan {

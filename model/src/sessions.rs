@@ -13,7 +13,6 @@ use crate::set::{to_number, Set};
 use crate::sound::is_sound;
 use crate::table::Table;
 use crate::tables;
-use crate::tally;
 
 /// A table on its way through calls, which are answered as the probe prints it.
 struct Session(Table);
@@ -424,10 +423,4 @@ fn lines_stand_for_records_and_questions() {
     ] {
         assert!(lines::recording(wrong).is_err(), "{wrong}");
     }
-}
-
-#[test]
-fn each_thing_to_meet_is_met_as_often_as_asked() {
-    let row: Vec<u8> = tally::each(1, 2).flatten().collect();
-    assert!(tally::of_cases(&[row], std::io::sink()).expect("no output fails"));
 }
