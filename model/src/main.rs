@@ -35,6 +35,7 @@ mod stream;
 mod table;
 mod tables;
 mod tally;
+mod traps;
 
 use std::fs;
 use std::io::{self, BufReader, BufWriter, Write};

@@ -8,6 +8,7 @@ use crate::record::{self, Record};
 use crate::refuse;
 use crate::replay::{walk, Said};
 use crate::sound;
+use crate::traps;
 use std::collections::BTreeMap;
 use std::io::{self, Write};
 
@@ -137,18 +138,28 @@ fn expected_of_cases() -> Vec<String> {
         expected.extend(pairs.map(|(low, high)| format!("together {call} {low} {high}")));
     }
     expected.extend(sound::clauses().map(|clause| format!("only broken {clause}")));
+    expected.extend(traps::TRAPS.map(|trap| format!("trap {trap}")));
     expected
 }
 
 /// All that a case meets.
 fn met_by(case: &Case) -> Vec<String> {
     let call = case.call;
-    let mut applying = refuse::applying(case);
-    let Some(given) = applying.next() else {
-        return vec![format!("answer {}", name(call, &answer(case).answer))];
+    let outcome = answer(case);
+    let mut met = match outcome.answer {
+        Answer::No(number) => met_by_refusal(case, number),
+        ref plain => vec![format!("answer {}", name(call, plain))],
     };
+    let traps = traps::in_case(case, &outcome).into_iter();
+    met.extend(traps.map(|trap| format!("trap {trap}")));
+    met
+}
+
+fn met_by_refusal(case: &Case, given: u8) -> Vec<String> {
+    let call = case.call;
+    let others = refuse::applying(case).skip(1);
     let mut met = vec![format!("refusal {call} {given}")];
-    met.extend(applying.map(|other| format!("together {call} {given} {other}")));
+    met.extend(others.map(|other| format!("together {call} {given} {other}")));
     if let (3, [clause]) = (given, sound::broken(&case.table).as_slice()) {
         met.push(format!("only broken {clause}"));
     }
@@ -156,7 +167,7 @@ fn met_by(case: &Case) -> Vec<String> {
 }
 
 /// Counts rows of cases: answers, refusals, those that apply together with the
-/// one given, and the clauses of soundness that are the only one broken.
+/// one given, the clauses of soundness that are the only one broken, and traps.
 pub fn of_cases(rows: &[Vec<u8>], mut out: impl Write) -> io::Result<bool> {
     let mut tally = Tally::default();
     let mut counted = 0_u64;

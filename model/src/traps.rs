@@ -1,0 +1,109 @@
+//! The traps that document 01 names, and their like: calls at which an arbiter that
+//! fell into one would answer otherwise.
+
+use crate::answer::{Answer, Outcome};
+use crate::arbiter::{Arbiter, Request};
+use crate::case::{Call, Case};
+use crate::clock;
+use crate::set::{from_number, Set};
+
+/// Every trap.
+pub const TRAPS: [&str; 17] = [
+    "ask waits for a set of which a part is free",
+    "ask waits for what nobody holds",
+    "complete leaves a set of which a part is free",
+    "complete wakes by a set",
+    "complete wakes by a token",
+    "overdue at the limit",
+    "overdue a millisecond before the limit",
+    "beat over the wrap",
+    "open over the wrap",
+    "ask over the wrap",
+    "release over the wrap",
+    "complete over the wrap",
+    "overdue over the wrap",
+    "open refused with a later tick",
+    "ask refused with a later tick",
+    "release refused with a later tick",
+    "complete refused with a later tick",
+];
+
+/// The traps that lie in a case with this outcome.
+pub fn in_case(case: &Case, outcome: &Outcome) -> Vec<String> {
+    let before = Arbiter::of(&case.table);
+    let call = case.call;
+    let mut traps = match outcome.answer {
+        Answer::No(number) => return refused(case, number),
+        Answer::Wait if call == Call::Ask => ask(case, &before),
+        Answer::Woke(_) => complete(&before, &Arbiter::of(&outcome.table)),
+        Answer::Overdue(_) => overdue(case, &before),
+        _ => Vec::new(),
+    };
+    let ticks = (call as u8) <= Call::Complete as u8 || call == Call::Overdue;
+    if ticks && case.tick < clock::tick_after(case.table.time, 0) {
+        traps.push(format!("{call} over the wrap"));
+    }
+    traps
+}
+
+/// The clock must not move, and could have: 5 and 6 are not the reason.
+fn refused(case: &Case, number: u8) -> Vec<String> {
+    let later = clock::forward(case.table.time, case.tick) > 0;
+    let moves = (Call::Open as u8..=Call::Complete as u8).contains(&(case.call as u8));
+    if moves && later && (7..=16).contains(&number) {
+        return vec![format!("{} refused with a later tick", case.call)];
+    }
+    Vec::new()
+}
+
+fn ask(case: &Case, before: &Arbiter) -> Vec<String> {
+    let set = from_number(case.set);
+    let turn = before.request(case.job).expect("it was accepted").turn;
+    let mut traps = Vec::new();
+    if part_is_free(before, turn, &set) {
+        traps.push("ask waits for a set of which a part is free".to_string());
+    }
+    if before.line.iter().all(|r| r.held.is_disjoint(&set)) {
+        traps.push("ask waits for what nobody holds".to_string());
+    }
+    traps
+}
+
+fn part_is_free(arbiter: &Arbiter, turn: u64, set: &Set) -> bool {
+    let free = |&member: &u8| arbiter.in_the_way(turn, &Set::from([member])) == 0;
+    set.iter().any(free)
+}
+
+fn complete(before: &Arbiter, after: &Arbiter) -> Vec<String> {
+    let mut traps = Vec::new();
+    for now in &after.line {
+        let then = before.request(u32::from(now.job)).expect("only one left");
+        if before.waits(then) && !after.waits(now) {
+            let by = if then.asked.is_empty() {
+                "token"
+            } else {
+                "set"
+            };
+            traps.push(format!("complete wakes by a {by}"));
+        }
+        if part_is_free(after, now.turn, &now.asked) {
+            traps.push("complete leaves a set of which a part is free".to_string());
+        }
+    }
+    traps
+}
+
+fn overdue(case: &Case, before: &Arbiter) -> Vec<String> {
+    let now = clock::moved(case.table.time, case.tick);
+    let limit = u64::from(case.table.limit);
+    let waited = |r: &Request| before.waits(r).then(|| now - r.since);
+    let waits = |span| before.line.iter().any(|r| waited(r) == Some(span));
+    let mut traps = Vec::new();
+    if waits(limit) {
+        traps.push("overdue at the limit".to_string());
+    }
+    if waits(limit - 1) {
+        traps.push("overdue a millisecond before the limit".to_string());
+    }
+    traps
+}
