@@ -276,7 +276,9 @@ pub fn of_recordings(recordings: &[Vec<u8>], mut out: impl Write) -> io::Result<
         walk(recording.as_slice(), |started, bytes, said| {
             counted += 1;
             tally.count(name_record(started, bytes, said));
-            together(started, bytes, said).map(|pair| tally.count(pair));
+            if let Some(pair) = together(started, bytes, said) {
+                tally.count(pair);
+            }
             Ok(())
         })?;
     }
