@@ -1,6 +1,5 @@
 -- Each arm's number picks its event from the list; another number picks none.
 use borrow.Author.Tests.{ne-eqb}
-use borrow.Author.Needs.{needs}
 use Rattle.probe.proofs.called.event_of.Statement.{statement}
 use Rattle.probe.proofs.called.event_of.Tie as tie
 
