@@ -1,7 +1,7 @@
 -- Lists of which a part was written and the rest is kept.
 use Prim.Native.Nat.{ℕ, suc, _+_, _<_, _≤_}
 use mathlib.Core.List.{List, [], _∷_, _++_, append-assoc, append-nil}
-use mathlib.Core.Path.{_≡_, sym, ap, _∙_}
+use mathlib.Core.Path.{_≡_, refl, sym, ap, _∙_}
 use native.Mathlib.Nat.{zero-add, add-assoc, add-zero}
 use native.Mathlib.Numerals.{add-one}
 use native.Mathlib.Omega.{arith}
@@ -78,12 +78,17 @@ pub record Wrote {A : Type 0} (before : List A) (k : ℕ) (text : List A) (end :
   pub ends : end ≡ k + length text
   pub left : after ≡ laid before k text
 
+module _ {A : Type 0} {before after : List A} {k end : ℕ} {s : List A} where
+  -- the room is as long as it was
+  pub wrote-length : Wrote before k s end after → length after ≡ length before
+  wrote-length p = ap length (p .left) ∙ length-laid before k s (p .room)
+
 module _ {A : Type 0} {before middle after : List A} {k m end : ℕ} {s t : List A} where
   -- one text behind another
   pub then : Wrote before k s m middle → Wrote middle m t end after → Wrote before k (s ++ t) end after
   then p q =
       let joined : k + length s + length t ≡ k + length (s ++ t) = simp (length-append, add-assoc) in
-      let same : length middle ≡ length before = ap length (p .left) ∙ length-laid before k s (p .room) in
+      let same = wrote-length p in
       record {
         room = omega (arith, joined, same, p .ends, q .room);
         ends = q .ends ∙ ap (λ (n : ℕ). n + length t) (p .ends) ∙ joined;
@@ -91,3 +96,11 @@ module _ {A : Type 0} {before middle after : List A} {k m end : ℕ} {s t : List
             q .left ∙ ap (λ (l : List A). laid l m t) (p .left) ∙ ap (λ (n : ℕ). laid (laid before k s) n t) (p .ends)
             ∙ laid-laid before k s t (p .room);
       }
+
+-- no text, and a text of one element
+module _ {A : Type 0} (out : List A) (k : ℕ) where
+  pub wrote-none : k ≤ length out → Wrote out k [] k out
+  wrote-none h = record { room = omega arith; ends = sym (add-zero k); left = sym (laid-none out k) }
+
+  pub wrote-one : (b : A) → k < length out → Wrote out k (b ∷ []) (k + 1) (set out k b)
+  wrote-one b h = record { room = omega arith; ends = refl; left = laid-one out k b h }

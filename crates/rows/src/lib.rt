@@ -15,6 +15,7 @@ pub use row::earlier;
 pub use row::idle;
 pub use row::live;
 pub use scan::in_way;
+pub use scan::live_count;
 pub use scan::standing;
 pub use scan::survey;
 pub use settle::settled;

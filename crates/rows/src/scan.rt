@@ -12,7 +12,7 @@ ghost use mathlib.Core.Path.{_≡_};
 ghost use lib.Dec.{eqb};
 ghost use Rattle.laws.specs.Bools.{bit};
 ghost use Rattle.laws.specs.Lists.{count};
-ghost use Rattle.rows.specs.Order.{alone, bears, claims, distinct, earlier, inWay, jobs};
+ghost use Rattle.rows.specs.Order.{alone, bears, claims, distinct, earlier, inWay, jobs, live};
 ghost use Rattle.rows.specs.Stand.{Stands, Surveyed, joined, unknown};
 
 // Whether the row is live and of lower turn.
@@ -62,6 +62,20 @@ pub fn in_way(rows: [Row; JOBS], turn: Turn, s: u64) -> u32
     while i < JOBS {
         let r = rows[i];
         n = counted(n, claims(r, turn, s));
+        i += 1;
+    }
+    n
+}
+
+// How many rows are live.
+pub fn live_count(rows: [Row; JOBS]) -> u32
+    ensures { λ n. ⌜ n ≡ count live rows ⌝ }
+{
+    let mut n = 0;
+    let mut i = 0;
+    while i < JOBS {
+        let r = rows[i];
+        n = counted(n, live(r));
         i += 1;
     }
     n

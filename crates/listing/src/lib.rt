@@ -1,0 +1,10 @@
+// The text of a replay, byte for byte: a line for each record of a recording, and the last line.
+mod replay;
+mod writing;
+
+pub use replay::LINE;
+pub use replay::Listed;
+pub use replay::Replay;
+pub use replay::Stage;
+pub use replay::Stepped;
+pub use replay::Took;
