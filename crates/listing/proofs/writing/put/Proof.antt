@@ -8,11 +8,9 @@ use native.Mathlib.Omega.{arith}
 use lib.ListN.{getD, length, set, take, length-set}
 use lib.Seq.{take-all, take-suc}
 use borrow.Author.Needs.{needs}
-use Rattle.laws.specs.Front.{Wrote, length-laid, then, wrote-none, wrote-one}
+use Rattle.laws.specs.Front.{Wrote, then, wrote-none, wrote-one}
 use Rattle.listing.proofs.writing.put.Statement.{statement}
 use Rattle.listing.proofs.writing.put.Tie as tie
-use Rattle.listing.proofs.writing.put.Reads as reads
-use Rattle.listing.proofs.writing.put.Lts as lts
 
 -- one byte more
 module _ (out₀ out text : List ℕ) (at i : ℕ) (below : i < length text) (inside : at + i < length out) where
@@ -28,7 +26,6 @@ Inv-loop text out₀ at i₀ out i = (i ≤ length text) × (length out ≡ leng
 abbrev μ-loop : tie.MeasureT-loop
 μ-loop text out₀ at i₀ out i = length text - i
 
--- src/writing.rt:22:5
 loop-holds : tie.Need-loop-holds Inv-loop μ-loop
 loop-holds c = (
   omega arith,
@@ -36,27 +33,21 @@ loop-holds c = (
   rw (add-zero (c .args .at)) (wrote-none (c .args .out .now) (c .args .at) (omega (arith, c .pre))),
 )
 
--- src/writing.rt:23:23
 shared-slice-read-out : tie.Need-shared-slice-read-out Inv-loop μ-loop
 shared-slice-read-out c = search needs
 
--- src/writing.rt:23:13
 add-out : tie.Need-add-out Inv-loop μ-loop
 add-out c = search needs
 
--- src/writing.rt:23:9
 slice-write-out : tie.Need-slice-write-out Inv-loop μ-loop
 slice-write-out c = search needs
 
--- src/writing.rt:24:9
 add-i : tie.Need-add-i Inv-loop μ-loop
 add-i c = search needs
 
--- src/writing.rt:22:5
 loop-less : tie.Need-loop-less Inv-loop μ-loop
 loop-less c = search needs
 
--- src/writing.rt:22:5
 loop-again : tie.Need-loop-again Inv-loop μ-loop
 loop-again c =
     let a = c .before .before .before .args in
@@ -66,15 +57,12 @@ loop-again c =
       one-more (a .out .now) (at .out) (a .text .now) (a .at) (at .i) (omega arith) (omega arith) (at .inv .2),
     )
 
--- src/writing.rt:26:5
 add-result : tie.Need-add-result Inv-loop μ-loop
 add-result c = search needs
 
--- src/writing.rt:17:1
 same-length : tie.Need-same-length Inv-loop μ-loop
 same-length c = search needs
 
--- src/writing.rt:17:1
 returns : tie.Need-returns Inv-loop μ-loop
 returns c =
     let a = c .before .before .args in

@@ -6,43 +6,29 @@ use Rattle.listing.specs.Listing.{endLine}
 use borrow.Author.Needs.{needs}
 use Rattle.listing.proofs.writing.put_end.Statement.{statement}
 use Rattle.listing.proofs.writing.put_end.Tie as tie
-use Rattle.listing.proofs.writing.put_end.Reads as reads
-use Rattle.listing.proofs.writing.put_end.Lts as lts
-use Rattle.listing.proofs.writing.put.Reads as put-reads
-use Rattle.listing.proofs.writing.put_number.Reads as put-number-reads
-use Rattle.listing.proofs.writing.tokens_in.Reads as tokens-in-reads
-use Rattle.rows.proofs.live_count.Reads as live-count-reads
 
--- src/writing.rt:127:9
 live-count-requires : tie.Need-live-count-requires
 live-count-requires c κs = search needs
 
--- src/writing.rt:128:9
 tokens-in-requires : tie.Need-tokens-in-requires
 tokens-in-requires c κs = search needs
 
--- src/writing.rt:129:27
 slice-aggregate-put-number : tie.Need-slice-aggregate-put-number
 slice-aggregate-put-number c = search needs
 
--- src/writing.rt:129:36
 cast-put-number : tie.Need-cast-put-number
 cast-put-number c = search needs
 
--- src/writing.rt:129:9
 put-number-requires : tie.Need-put-number-requires
 put-number-requires c κs =
     omega (arith, length-text 10 (c .before .before .before .live-count .result) (omega arith) (omega arith), c .before .before .before .before .before .before .pre)
 
--- src/writing.rt:130:26
 slice-aggregate-put-number-2 : tie.Need-slice-aggregate-put-number-2
 slice-aggregate-put-number-2 c = search needs
 
--- src/writing.rt:130:32
 cast-put-number-2 : tie.Need-cast-put-number-2
 cast-put-number-2 c = search needs
 
--- src/writing.rt:130:9
 put-number-requires-2 : tie.Need-put-number-requires-2
 put-number-requires-2 c κs =
     let w = c .before .before .before .before .put-number .ensures in
@@ -50,11 +36,9 @@ put-number-requires-2 c κs =
     let tokens = length-text 10 (c .before .before .before .before .before .before .before .tokens-in .result) (omega arith) (omega arith) in
     omega (arith, w .ends, wrote-length w, c .before .before .before .before .before .before .before .before .before .before .before .pre)
 
--- src/writing.rt:131:9
 slice-aggregate-put : tie.Need-slice-aggregate-put
 slice-aggregate-put c = search needs
 
--- src/writing.rt:131:5
 put-requires : tie.Need-put-requires
 put-requires c κs =
     let w = c .before .before .before .before .before .before .before .before .before .put-number .ensures in
@@ -63,11 +47,9 @@ put-requires c κs =
     let tokens = length-text 10 (c .before .before .before .before .before .before .before .before .before .before .before .before .tokens-in .result) (omega arith) (omega arith) in
     omega (arith, w .ends, wrote-length w, x .ends, wrote-length x, c .before .before .before .before .before .before .before .before .before .before .before .before .before .before .before .before .pre)
 
--- src/writing.rt:122:1
 same-length : tie.Need-same-length
 same-length c = search needs
 
--- src/writing.rt:122:1
 returns : tie.Need-returns
 unfolding endLine
 returns c =

@@ -1,18 +1,14 @@
 -- The loop keeps: the jobs before place i are written, and each took at most four bytes.
-use Prim.Native.Nat.{ℕ, _+_, _-_, _*_, _<_, _≤_}
-use mathlib.Core.List.{List, _∷_, _++_}
-use mathlib.Core.Path.{_≡_, refl, sym, subst, _∙_}
+use Prim.Native.Nat.{ℕ, _+_, _-_, _*_, _≤_}
+use mathlib.Core.Path.{_≡_, refl, subst, _∙_}
 use native.Mathlib.Omega.{arith}
-use lib.ListN.{getD, length, take}
+use lib.ListN.{length, take}
 use Rattle.laws.specs.Front.{Wrote, then, wrote-length, wrote-none}
 use Rattle.listing.specs.Listing.{items}
 use Rattle.listing.specs.Lengths.{items-more}
 use borrow.Author.Needs.{needs}
 use Rattle.listing.proofs.writing.put_jobs.Statement.{statement}
 use Rattle.listing.proofs.writing.put_jobs.Tie as tie
-use Rattle.listing.proofs.writing.put_jobs.Reads as reads
-use Rattle.listing.proofs.writing.put_jobs.Lts as lts
-use Rattle.listing.proofs.writing.put_job.Reads as put-job-reads
 
 abbrev Inv-loop : tie.InvT-loop
 Inv-loop jobs count out₀ at end₀ i₀ out end i =
@@ -21,32 +17,26 @@ Inv-loop jobs count out₀ at end₀ i₀ out end i =
 abbrev μ-loop : tie.MeasureT-loop
 μ-loop jobs count out₀ at end₀ i₀ out end i = count - i
 
--- src/writing.rt:46:5
 loop-holds : tie.Need-loop-holds Inv-loop μ-loop
 unfolding items
 loop-holds c =
     let a = c .before .before .args in
     (omega arith, refl, omega arith, wrote-none (a .out .now) (a .at) (omega arith))
 
--- src/writing.rt:47:23
 shared-slice-read-put-job : tie.Need-shared-slice-read-put-job Inv-loop μ-loop
 shared-slice-read-put-job c = search needs
 
--- src/writing.rt:47:9
 put-job-requires : tie.Need-put-job-requires Inv-loop μ-loop
 put-job-requires c κs =
     let at = c .before .before .before .loop in
     omega (arith, c .before .before .before .before .before .before .pre, at .inv)
 
--- src/writing.rt:48:9
 add-i : tie.Need-add-i Inv-loop μ-loop
 add-i c = search needs
 
--- src/writing.rt:46:5
 loop-less : tie.Need-loop-less Inv-loop μ-loop
 loop-less c = search needs
 
--- src/writing.rt:46:5
 loop-again : tie.Need-loop-again Inv-loop μ-loop
 loop-again c =
     let a = c .before .before .before .before .before .before .before .before .before .args in
@@ -58,11 +48,9 @@ loop-again c =
       rw (items-more (a .jobs .now) (at .i) (omega arith)) (then (at .inv .3) w),
     )
 
--- src/writing.rt:39:1
 same-length : tie.Need-same-length Inv-loop μ-loop
 same-length c = search needs
 
--- src/writing.rt:39:1
 returns : tie.Need-returns Inv-loop μ-loop
 returns c =
     let a = c .before .before .before .before .args in

@@ -6,38 +6,27 @@ use Rattle.listing.specs.Listing.{line}
 use borrow.Author.Needs.{needs}
 use Rattle.listing.proofs.writing.put_line.Statement.{statement}
 use Rattle.listing.proofs.writing.put_line.Tie as tie
-use Rattle.listing.proofs.writing.put_line.Reads as reads
-use Rattle.listing.proofs.writing.put_line.Lts as lts
-use Rattle.decimal.proofs.write.Reads as write-reads
-use Rattle.listing.proofs.writing.put.Reads as put-reads
-use Rattle.listing.proofs.writing.put_word.Reads as put-word-reads
 
--- src/writing.rt:109:9
 write-requires : tie.Need-write-requires
 write-requires c κs = omega (arith, length-text-u64 (c .before .before .args .number) (omega arith), c .before .before .pre)
 
--- src/writing.rt:110:9
 put-word-requires : tie.Need-put-word-requires
 put-word-requires c κs =
     let w = c .before .before .before .write .ensures in
     omega (arith, w .ends, wrote-length w, length-text-u64 (c .before .before .before .before .before .before .args .number) (omega arith), c .before .before .before .before .before .before .pre)
 
--- src/writing.rt:111:9
 slice-aggregate-put : tie.Need-slice-aggregate-put
 slice-aggregate-put c = search needs
 
--- src/writing.rt:111:5
 put-requires : tie.Need-put-requires
 put-requires c κs =
     let w = c .before .before .before .before .before .before .before .before .write .ensures in
     let x = c .before .before .before .before .put-word .ensures in
     omega (arith, w .ends, wrote-length w, wrote-length (x .0), x .1, length-text-u64 (c .before .before .before .before .before .before .before .before .before .before .before .args .number) (omega arith), c .before .before .before .before .before .before .before .before .before .before .before .pre)
 
--- src/writing.rt:105:1
 same-length : tie.Need-same-length
 same-length c = search needs
 
--- src/writing.rt:105:1
 returns : tie.Need-returns
 unfolding line
 returns c =

@@ -5,24 +5,17 @@ use Rattle.listing.specs.Listing.{wordText}
 use borrow.Author.Needs.{needs}
 use Rattle.listing.proofs.writing.put_no.Statement.{statement}
 use Rattle.listing.proofs.writing.put_no.Tie as tie
-use Rattle.listing.proofs.writing.put_no.Reads as reads
-use Rattle.listing.proofs.writing.put_no.Lts as lts
-use Rattle.listing.proofs.writing.put_number.Reads as put-number-reads
 
--- src/writing.rt:85:16
 slice-aggregate-put-number : tie.Need-slice-aggregate-put-number
 slice-aggregate-put-number c = search needs
 
--- src/writing.rt:85:5
 put-number-requires : tie.Need-put-number-requires
 put-number-requires c κs =
     omega (arith, length-text 10 (c .before .before .before .args .number) (omega arith) (omega arith), c .before .before .before .pre)
 
--- src/writing.rt:80:1
 same-length : tie.Need-same-length
 same-length c = search needs
 
--- src/writing.rt:80:1
 returns : tie.Need-returns
 unfolding wordText
 returns c =

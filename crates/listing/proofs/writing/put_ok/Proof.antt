@@ -1,6 +1,6 @@
 -- The word and the jobs behind it.
 use Prim.Native.Nat.{ℕ}
-use mathlib.Core.Path.{_≡_, ap, _∙_}
+use mathlib.Core.Path.{ap, _∙_}
 use native.Mathlib.Omega.{arith}
 use lib.ListN.{take}
 use Rattle.laws.specs.Front.{then}
@@ -9,33 +9,22 @@ use Rattle.record.specs.Recording.{take-min}
 use borrow.Author.Needs.{needs}
 use Rattle.listing.proofs.writing.put_ok.Statement.{statement}
 use Rattle.listing.proofs.writing.put_ok.Tie as tie
-use Rattle.listing.proofs.writing.put_ok.Reads as reads
-use Rattle.listing.proofs.writing.put_ok.Lts as lts
-use Rattle.listing.proofs.writing.at_most.Reads as at-most-reads
-use Rattle.listing.proofs.writing.put.Reads as put-reads
-use Rattle.listing.proofs.writing.put_jobs.Reads as put-jobs-reads
 
--- src/writing.rt:80:20
 slice-aggregate-put : tie.Need-slice-aggregate-put
 slice-aggregate-put c = search needs
 
--- src/writing.rt:80:9
 put-requires : tie.Need-put-requires
 put-requires c κs = search needs
 
--- src/writing.rt:81:9
 at-most-requires : tie.Need-at-most-requires
 at-most-requires c κs = search needs
 
--- src/writing.rt:82:5
 put-jobs-requires : tie.Need-put-jobs-requires
 put-jobs-requires c κs = search needs
 
--- src/writing.rt:75:1
 same-length : tie.Need-same-length
 same-length c = search needs
 
--- src/writing.rt:75:1
 returns : tie.Need-returns
 unfolding wordText
 returns c =
