@@ -1,5 +1,5 @@
 -- Every promise determines its answer: what two calls that keep it hand back is the same. Here are the general law and the
--- promises of `event` and `arbiter`; those of the other crates stand in `DeterminedBelow`.
+-- promises of `event` and `arbiter`; those of the other crates stand in `DeterminedBelow` and `DeterminedReplay`.
 use Prim.Native.Nat.{ℕ}
 use mathlib.Core.List.{List}
 use mathlib.Core.Path.{_≡_, refl, sym, ap, _∙_}
@@ -67,7 +67,7 @@ moment-said (Moments.No r) = ap Moments.No (refusalOf-numberOf r)
 moment-said (Moments.At n) = refl
 
 -- so what is said and the table determine what a call on a table returns
-same-next :
+pub same-next :
     {said : Outcome Said} {t : Table} {r r′ : Next} → saidOf (r .answer) ≡ said → saidOf (r′ .answer) ≡ said →
     r .table ≡ t → r′ .table ≡ t → r ≡ r′
 same-next {r = r} {r′ = r′} p p′ q q′ =

@@ -7,6 +7,7 @@ pub mod DemandSets
 pub mod DemandToken
 pub mod Determined
 pub mod DeterminedBelow
+pub mod DeterminedReplay
 pub mod History
 pub mod HistoryCount
 pub mod HistoryRow
