@@ -6,8 +6,9 @@ use crate::record::{self, Record, LENGTH};
 use crate::replay::Replay;
 use crate::table::Table;
 
-/// Records in 65,536 bytes, rounded down.
-const BLOCK: u64 = 4681;
+/// Records that the replay program takes at once: as many as have room for their
+/// longest lines in 65,536 bytes.
+const BLOCK: u64 = 234;
 
 const CALM: &[u64] = &[0, 0, 0, 1, 1, 2, 3, 40, 1000];
 
@@ -87,7 +88,7 @@ pub fn kinds() -> impl Iterator<Item = &'static str> {
 /// A recording of `count` records. Nothing if there is no such kind.
 ///
 /// The seed steps through the edges, so that a row of seeds meets them all: a `cut`
-/// one has seed modulo 14 bytes more; a `block` one has `count` times 4681 records,
+/// one has seed modulo 14 bytes more; a `block` one has `count` times 234 records,
 /// less one to more one by seed modulo 3, and (seed / 3) modulo 14 bytes more; a
 /// `first` one has one of seven bad beginnings by seed modulo 7, the last of them
 /// (seed / 7) modulo 14 bytes and no more.
