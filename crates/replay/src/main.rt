@@ -2,13 +2,14 @@
 use listing::LINE;
 use listing::Replay;
 use listing::Took;
+use record::SIZE;
 use stream::Out;
 
 // How many bytes of text are written at once.
 const ROOM: usize = 65536;
 
 // How many bytes are read at once: whole records, as many as their lines have room for.
-const BLOCK: usize = 14 * (ROOM / LINE);
+const BLOCK: usize = SIZE * (ROOM / LINE);
 
 // Where the replay stands, whether more of the input may follow, and how many reads and writes failed.
 struct Taken {
