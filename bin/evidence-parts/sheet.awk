@@ -29,7 +29,8 @@ $1 == "wrong" { why($2); failed = 1 }
 $1 == "compared" { compared[++compared_count] = $2 OFS $3 OFS $4 OFS $5 OFS $6 }
 $1 == "found" { found[$2] = $3 }
 $1 == "ran" { ran[$2] = $3 }
-$1 ~ /^(seed|alike|breaks|model|last)$/ { gate[$1] = $2 }
+$1 ~ /^(seed|alike|breaks|last)$/ { gate[$1] = $2 }
+$1 == "model" { gate["model"] = (gate["model"] == "" ? "" : gate["model"] " | ") $2 }
 
 # ---- what speaks against a pass
 function look_at_crates(    i, c) {
@@ -67,7 +68,7 @@ function look_at_axioms(    i, c) {
 }
 
 function look_at_comparisons(    i, unsaid) {
-    if (!("model" in gate)) why("the model's own tests: the output says nothing of them")
+    if (gate["model"] == "") why("the model's own tests: the output says nothing of them")
     if (!("alike" in gate)) why("the comparison with the model: the output does not say that it came to its end")
     if (!("breaks" in gate)) why("the comparison's own trial (.ci/compare-breaks): the output does not say that it came to its end")
     for (i = 1; i <= break_count; i++) if (!(breaks[i] in found)) unsaid++
