@@ -18,6 +18,9 @@ FNR == NR && $1 == "theorem" { theorem[++theorem_lines] = substr($0, 9); next }
 FNR == NR { tree[$1] = $2; next }
 
 # ---- the gate's output
+# A gate speaks of each crate and edit once; twice means that the outputs of two runs are mixed, and the later would hide the other.
+$1 == "checked" && $2 in result { why("crate " $2 ": the output speaks of it twice, so it is not of one run") }
+$1 == "tried" && $2 in outcome { why("must-fail edit " $2 ": the output speaks of it twice, so it is not of one run") }
 $1 == "checked" { result[$2] = $3; functions[$2] = $4; listed[$2] = $5 + 0; took[$2] = $6; rests[$2] = $7; counted[$2] = $8 + 0 }
 $1 == "function" { names[$2] = names[$2] (names[$2] == "" ? "" : ", ") $3 }
 $1 == "unproved" { why($3); failed = 1 }
