@@ -1,0 +1,148 @@
+//! Makes what the programs are measured on.
+//!
+//! ```text
+//! input case CALL LIVE ORDER COUNT    COUNT times the same accepted call
+//! input around CALL LIVE ORDER COUNT  the same, but refused before the table is looked at
+//! input records CALLS LIVE COUNT      a recording: LIVE requests, then COUNT records of these calls in turn
+//! ```
+//!
+//! ORDER is `rising` (turns in order of job), `falling` or `mixed`.
+
+use std::io::{self, Write};
+
+const JOBS: usize = 64;
+const TOKENS: usize = 8;
+const LIMIT: u64 = 1000;
+/// Past the first wrap of the tick.
+const TIME: u64 = 5_000_000_000;
+const WRITE_OPEN: u8 = 9;
+
+type Row = [u64; 5];
+
+/// The call's number, job, set and length of the lent list.
+struct Call {
+    number: u8,
+    job: usize,
+    set: u64,
+    length: u16,
+    live: usize,
+}
+
+/// The job of the request at this place in line.
+fn job_at(order: &str, live: usize, place: usize) -> usize {
+    match order {
+        "falling" => live - 1 - place,
+        // An odd factor makes it go through all jobs once.
+        "mixed" => (place * 37 + 11) % JOBS,
+        _ => place,
+    }
+}
+
+/// Neighbours in line are in each other's way. The first holds one of its two; the odd ones with a token have asked for
+/// what their predecessor declared and wait, and so does whoever has no token. All waits are older than the limit.
+fn rows(order: &str, live: usize) -> [Row; JOBS] {
+    let mut rows = [[0; 5]; JOBS];
+    for place in 0..live {
+        let declared = 1 << (place % 16) | 1 << ((place + 1) % 16);
+        let asks = place < TOKENS && place % 2 == 1;
+        let asked = if asks { 1 << (place % 16) } else { 0 };
+        let waits = asks || place >= TOKENS;
+        let since = if waits { TIME - LIMIT - 500 + place as u64 } else { 0 };
+        let held = u64::from(place == 0);
+        rows[job_at(order, live, place)] = [place as u64 + 1, declared, held, asked, since];
+    }
+    rows
+}
+
+/// Nothing where there is no such call: the ask that has to wait is of the third in line.
+fn call(name: &str, live: usize, order: &str) -> Option<Call> {
+    let first = job_at(order, live, 0);
+    let third = || (live > 2).then(|| job_at(order, live, 2));
+    // An opening needs an idle job.
+    let fewer = live.min(JOBS - 1);
+    let idle = || {
+        let rows = rows(order, fewer);
+        rows.iter().position(|row| row[0] == 0)
+    };
+    let (number, job, set, length, live) = match name {
+        "beat" => (0, 0, 0, 0, live),
+        "open" => (1, idle()?, 6, 0, fewer),
+        "ask" => (2, first, 2, 0, live),
+        "ask-wait" => (2, third()?, 4, 0, live),
+        "release" => (3, first, 1, 0, live),
+        "complete" => (4, first, 0, 64, live),
+        "report" => (5, job_at(order, live, live - 1), 0, 0, live),
+        "overdue" => (6, 0, 0, 64, live),
+        "start" => (7, 0, 0, 0, live),
+        _ => return None,
+    };
+    Some(Call { number, job, set, length, live })
+}
+
+fn case(call: &Call, order: &str) -> Vec<u8> {
+    let mut bytes = vec![call.number];
+    bytes.extend((call.job as u32).to_be_bytes());
+    bytes.extend(((TIME + 10) as u32).to_be_bytes());
+    bytes.extend(call.set.to_be_bytes());
+    bytes.extend(call.length.to_be_bytes());
+    bytes.extend([TOKENS as u8, 64]);
+    bytes.extend((LIMIT as u32).to_be_bytes());
+    bytes.extend(TIME.to_be_bytes());
+    bytes.extend((call.live as u64).to_be_bytes());
+    for number in rows(order, call.live).iter().flatten() {
+        bytes.extend(number.to_be_bytes());
+    }
+    bytes
+}
+
+fn record(kind: u16, job: usize, tick: u32, set: u64) -> Vec<u8> {
+    let head = kind << 13 | (job as u16) << 7;
+    let mut bytes = head.to_be_bytes().to_vec();
+    bytes.extend(tick.to_be_bytes());
+    bytes.extend(set.to_be_bytes());
+    bytes
+}
+
+/// The calls go round; each pair leaves the table as it was. The oldest request, job 0, asks and releases; job 63, which
+/// has no resource in common with the others, opens and completes.
+fn records(calls: &str, live: usize, count: usize) -> Vec<u8> {
+    let around: &[(u16, usize, u64)] = match calls {
+        "ask-release" => &[(2, 0, 1), (3, 0, 1)],
+        "open-complete" => &[(1, 63, 1 << 63), (4, 63, 0)],
+        _ => &[(0, 0, 0)],
+    };
+    let mut bytes = record(5, 63, 0, LIMIT << 32);
+    bytes[1] |= 63 << 1;
+    for job in 0..live {
+        bytes.extend(record(1, job, 0, 1 << (job % 16) | 1 << ((job + 1) % 16)));
+    }
+    for i in 0..count {
+        let (kind, job, set) = around[i % around.len()];
+        bytes.extend(record(kind, job, i as u32 / 4, set));
+    }
+    bytes
+}
+
+fn made(words: &[&str]) -> Option<Vec<u8>> {
+    let number = |text: &str| text.parse::<usize>().ok();
+    match *words {
+        [what @ ("case" | "around"), name, live, order, count] => {
+            let mut call = call(name, number(live)?, order)?;
+            if what == "around" {
+                call.number = WRITE_OPEN;
+                call.job = JOBS;
+            }
+            Some(case(&call, order).repeat(number(count)?))
+        }
+        ["records", calls, live, count] => Some(records(calls, number(live)?, number(count)?)),
+        _ => None,
+    }
+}
+
+/// Makes nothing, and fails, where there is no such call.
+fn main() -> io::Result<()> {
+    let words: Vec<String> = std::env::args().skip(1).collect();
+    let words: Vec<&str> = words.iter().map(String::as_str).collect();
+    let bytes = made(&words).ok_or_else(|| io::Error::other("there is no such call"))?;
+    io::stdout().write_all(&bytes)
+}
