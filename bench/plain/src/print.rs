@@ -132,7 +132,16 @@ impl Out {
             Ok(r) => {
                 self.text(b"report");
                 let (ahead, in_way) = (u64::from(r.ahead), u64::from(r.in_way));
-                self.words(b' ', &[r.turn, u64::from(r.token), u64::from(r.waiting), ahead, in_way]);
+                self.words(
+                    b' ',
+                    &[
+                        r.turn,
+                        u64::from(r.token),
+                        u64::from(r.waiting),
+                        ahead,
+                        in_way,
+                    ],
+                );
             }
         }
         self.text(b"\n");

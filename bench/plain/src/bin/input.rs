@@ -47,7 +47,11 @@ fn rows(order: &str, live: usize) -> [Row; JOBS] {
         let asks = place < TOKENS && place % 2 == 1;
         let asked = if asks { 1 << (place % 16) } else { 0 };
         let waits = asks || place >= TOKENS;
-        let since = if waits { TIME - LIMIT - 500 + place as u64 } else { 0 };
+        let since = if waits {
+            TIME - LIMIT - 500 + place as u64
+        } else {
+            0
+        };
         let held = u64::from(place == 0);
         rows[job_at(order, live, place)] = [place as u64 + 1, declared, held, asked, since];
     }
@@ -76,7 +80,13 @@ fn call(name: &str, live: usize, order: &str) -> Option<Call> {
         "start" => (7, 0, 0, 0, live),
         _ => return None,
     };
-    Some(Call { number, job, set, length, live })
+    Some(Call {
+        number,
+        job,
+        set,
+        length,
+        live,
+    })
 }
 
 fn case(call: &Call, order: &str) -> Vec<u8> {
