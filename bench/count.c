@@ -2,7 +2,8 @@
 // qemu-x86_64 -d plugin -D FILE -plugin count.so,skip=NAME,..,back=NAME,.. PROGRAM. FILE gets two numbers.
 // Where a function is entered whose name contains a NAME of skip, counting pauses until one of back is reached: so all
 // that printing calls is left out with it, library code too, which has no name here.
-// The few declarations below stand for qemu-plugin.h, which Debian does not install.
+// OFFERS is the version of what QEMU offers to plugins: 1 up to QEMU 8, then 2. The few declarations below stand for
+// qemu-plugin.h, which Debian does not install.
 #include <inttypes.h>
 #include <stddef.h>
 #include <stdio.h>
@@ -11,7 +12,7 @@
 typedef uint64_t plugin_id;
 struct qemu_plugin_tb;
 struct qemu_plugin_insn;
-__attribute__((visibility("default"))) int qemu_plugin_version = 1;
+__attribute__((visibility("default"))) int qemu_plugin_version = OFFERS;
 extern void qemu_plugin_register_vcpu_tb_trans_cb(plugin_id, void (*)(plugin_id, struct qemu_plugin_tb *));
 extern void qemu_plugin_register_vcpu_tb_exec_cb(struct qemu_plugin_tb *, void (*)(unsigned, void *), int, void *);
 extern void qemu_plugin_register_atexit_cb(plugin_id, void (*)(plugin_id, void *), void *);
@@ -60,9 +61,9 @@ static void ended(plugin_id id, void *none) {
     qemu_plugin_outs(text);
 }
 
-__attribute__((visibility("default"))) int qemu_plugin_install(plugin_id id, const void *info, int count, char **words) {
+__attribute__((visibility("default"))) int qemu_plugin_install(plugin_id id, const void *info, int n, char **words) {
     (void)info;
-    for (int i = 0; i < count && known < NAMES; i++) {
+    for (int i = 0; i < n && known < NAMES; i++) {
         kinds[known] = strncmp(words[i], "skip=", 5) == 0 ? SKIP : BACK;
         names[known++] = strdup(words[i] + 5); // back= is as long
     }

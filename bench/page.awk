@@ -1,7 +1,7 @@
 # Writes docs/bench.md from what bench/run measured: what is around a call, the calls, the replays.
 BEGIN {
     FS = "\t"
-    split("start beat open ask ask-wait release complete report overdue", calls, " ")
+    split("beat open ask ask-wait release complete report overdue", calls, " ")
     word["ask"] = "ask, granted"
     word["ask-wait"] = "ask, told to wait"
     word["lively"] = "busy, up to 12 jobs"
@@ -12,7 +12,13 @@ BEGIN {
 FNR == 1 { file++ }
 file == 1 { alone[$1] = $2; listed[$1] = $3 }
 file == 2 { n[$1, $2, $3] = $4; p[$1, $2, $3] = $5; t[$1, $2, $3] = $6 }
-file == 3 { replays++; name[replays] = $1; live[replays] = $2; for (i = 3; i <= NF; i++) replay[replays, i] = $i; width = NF }
+file == 3 {
+    replays++
+    name[replays] = $1
+    live[replays] = $2
+    for (i = 3; i <= NF; i++) replay[replays, i] = $i
+    width = NF
+}
 
 function name_of(x) { return x in word ? word[x] : x }
 
@@ -29,23 +35,35 @@ function ratio(a, b) {
     return a / b < 9.95 ? sprintf("%.1f", a / b) : big(a / b + 0.5)
 }
 
-function row(order, size, call) {
-    if (!((order, size, call) in n)) return
-    printf "| %s | %s | %s | %s | %s | %s | %s |\n", name_of(call), size, big(n[order, size, call]), big(p[order, size, call]), \
-        big(t[order, size, call]), ratio(n[order, size, call], p[order, size, call]), ratio(n[order, size, call], t[order, size, call])
+# A line of a table: three figures and what the first is to the others.
+function compared(what, size, a, b, c) {
+    printf "| %s | %s | %s | %s | %s |", what, size, big(a), big(b), big(c)
+    printf " %s | %s |\n", ratio(a, b), ratio(a, c)
 }
 
-function table(order, i, s) {
-    print "\n| Call | Live rows | Norakkeun | plain | plain, no test | Norakkeun / plain | Norakkeun / no test |"
+function head(what) {
+    print "\n| " what " | Live rows | Norakkeun | plain | plain, no test | Norakkeun / plain | Norakkeun / no test |"
     print "|---|---|---|---|---|---|---|"
+}
+
+function row(order, size, call, shown) {
+    if ((order, size, call) in n)
+        compared(name_of(call), shown, n[order, size, call], p[order, size, call], t[order, size, call])
+}
+
+# A start has no table before it, so there are no live rows.
+function table(order, i, s) {
+    head("Call")
     split("64 8 1", size, " ")
-    for (s = 1; s <= 3; s++) for (i = 1; i <= 9; i++) row(order, size[s], calls[i])
+    for (s = 1; s <= 3; s++)
+        for (i = 1; i <= 8; i++) row(order, size[s], calls[i], size[s])
+    row(order, 1, "start", "none")
 }
 
 function growth(i, s, line) {
     print "\n| Call | 1 | 2 | 4 | 8 | 16 | 32 | 64 |"
     print "|---|---|---|---|---|---|---|---|"
-    for (i = 1; i <= 9; i++) {
+    for (i = 1; i <= 8; i++) {
         line = "| " name_of(calls[i]) " |"
         for (s = 1; s <= 64; s *= 2) line = line cell(calls[i], s)
         print line
@@ -57,50 +75,52 @@ function cell(call, size) {
     return sprintf(" %s (%s) |", big(n["rising", size, call]), ratio(n["rising", size, call], p["rising", size, call]))
 }
 
-function replay_row(i, line) {
-    line = sprintf("| %s | %s |", name_of(name[i]), live[i])
-    line = line sprintf(" %s | %s | %s | %s |", big(replay[i, 3]), big(replay[i, 4]), big(replay[i, 5]), ratio(replay[i, 3], replay[i, 4]))
-    if (width > 5)
-        line = line sprintf(" %s | %s | %s | %s |", big(replay[i, 6]), big(replay[i, 7]), big(replay[i, 8]), ratio(replay[i, 6], replay[i, 7]))
-    print line
+# Instructions stand from the third figure of a line on, nanoseconds from the sixth.
+function replay_table(from, i) {
+    head("Records")
+    for (i = 1; i <= replays; i++)
+        compared(name_of(name[i]), live[i], replay[i, from], replay[i, from + 1], replay[i, from + 2])
 }
 
 function opening() {
     print "# What the calls cost against a plain program\n"
-    print "`bench/run` wrote this page and measured every figure on it in one run. No figure is a pass mark."
-    print "\nThree programs answer the same input, and their answers were the same: Norakkeun; `bench/plain`, document 01 in plain"
-    print "Rust written for speed, with the soundness test in every call; and the same without that test. The plain program goes"
-    print "through the live rows once in order of turn and changes the table in place."
-    print "\nInstructions are those of x86-64 under user-mode emulation (QEMU), counted by `bench/count.c`. They are the same in"
-    print "every run with the same C library and compilers; they are no times on a drive."
+    print "`bench/run` wrote this page and measured every figure on it in one run. No figure is a pass mark.\n"
+    printf "%s", "Three programs took the same input and gave the same answers: Norakkeun; `bench/plain`, which is document 01 in "
+    printf "%s", "plain Rust written for speed, with the soundness test in every call; and the same without that test. The plain "
+    printf "%s", "program goes through the live rows once in order of turn and changes the table in place. With the test it was "
+    print "held to the model by `.ci/compare` first.\n"
+    printf "%s", "Instructions are those of x86-64 under user-mode emulation (QEMU), counted by `bench/count.c`, with copying and "
+    printf "%s", "clearing by the C library's vector loops. With the same library and compilers a run repeats them. They compare "
+    print "programs; they are no times on a drive."
 }
 
 function around() {
     print "\n## Each call\n"
-    print "Instructions of one accepted call, T = 8, turns in order of job. Left out are printing, and what is around a call:"
-    print "reading the case, taking it apart, and the lent list. What is around was measured by a call that is refused before"
-    print "the table is looked at. Handing the table over is part of a call. At 64 live rows the opening has 63. A ratio to fewer"
-    print "than ten instructions is not given."
+    printf "%s", "Instructions of one accepted call, T = 8, turns in order of job. Printing is left out, and so is what is around "
+    printf "%s", "a call: reading the case, taking it apart and filling the lent list, as measured by a call that is refused before "
+    printf "%s", "the table is looked at. Handing the table in and out is part of a call. At 64 live rows the opening has 63. A "
+    print "ratio to fewer than ten instructions is not given."
 }
 
 function buffers() {
-    printf "\nBuffers: Norakkeun's `probe` clears a list of 65,536 bytes before each case, and `replay` a block of 3,276 bytes for each"
-    print " 234 records"
-    print "and 65,536 bytes once; the plain program clears its buffers once at its start. Above, clearing is left out as a part of"
-    printf "what is around a call: %s instructions in Norakkeun, %s in the plain program (%s and %s with a list of 64).\n", \
-        big(alone["norakkeun"]), big(alone["plain"]), big(listed["norakkeun"]), big(listed["plain"])
-    print "Below, under \"The replay\", it is in the figures."
+    printf "%s", "\nWere buffers cleared first? In Norakkeun yes: `probe` clears 65,536 bytes for the list and 2,601 for the case each "
+    printf "%s", "time, `replay` a block of 3,276 bytes for each 234 records and a room of 65,536 once. In the plain program no: its "
+    printf "%s", "buffers are cleared once, at its start. In the table above that is left out with all that is around a call "
+    printf "(Norakkeun %s instructions, plain %s; with a list of 64, %s and %s). ", big(alone["norakkeun"]), big(alone["plain"]), \
+        big(listed["norakkeun"]), big(listed["plain"])
+    print "In the figures of the replay below it is included, but for what is cleared at the start."
 }
 
-function replays_part(i) {
+function replays_part() {
     print "\n## The replay\n"
-    print "For each record, with reading, printing and clearing, without what starting the program takes. The busy recordings are"
-    print "the model's kinds `lively` and `crowd`; the others make the same calls over and over beside so many live rows."
-    if (width > 5) print "Times are processor time in nanoseconds, the best of five rounds on one x86-64 machine on which others were at work."
-    line = "\n| Records | Live rows | Norakkeun | plain | plain, no test | Norakkeun / plain |"
-    print line (width > 5 ? " Norakkeun, ns | plain, ns | plain, no test, ns | Norakkeun / plain, time |" : "")
-    print "|---|---|---|---|---|---|" (width > 5 ? "---|---|---|---|" : "")
-    for (i = 1; i <= replays; i++) replay_row(i)
+    printf "%s", "Instructions for each record, with reading, printing and clearing, without what starting the program takes. "
+    printf "%s", "The busy recordings are the model's kinds `lively` and `crowd`, refusals and all; the others make the same calls "
+    print "over and over beside so many live rows, T = 64."
+    replay_table(3)
+    if (width < 8) return
+    printf "\nNanoseconds of processor time on an x86-64 machine, longer recordings of the same kinds, the best of %d rounds. ", rounds
+    printf "At the beginning the load was %s on %d processors. Times vary from run to run.\n", load, processors
+    replay_table(6)
 }
 
 END {
