@@ -1,10 +1,11 @@
-// The table, and what the calls on it answer.
+// The table, and what the calls on it answer. What firmware holds is laid out as in C (`repr(C)`).
 use event::Refusal;
 use rows::JOBS;
 use rows::Row;
 use rows::Turn;
 
 // T, R, the waiting limit in ms, the true time, the last turn given, and a row for each job.
+#[repr(C)]
 pub struct Table {
     pub tokens: u32,
     pub resources: u32,
@@ -31,6 +32,7 @@ pub struct Next {
 }
 
 // What is told of a live request.
+#[repr(C)]
 pub struct Report {
     pub turn: Turn,
     pub token: bool,

@@ -13,6 +13,7 @@ const GONE_BACK: u64 = 2_147_483_648;
 const LAST: u64 = 9_223_372_036_854_775_807;
 
 // The drive's millisecond counter. A type of its own, so that no turn can stand in its place.
+#[repr(C)]
 pub struct Tick(pub u32);
 
 // What a tick gives: why it is refused, or the next true time.

@@ -7,9 +7,11 @@ ghost use Rattle.rows.specs.Order.{idle, live};
 pub const JOBS: usize = 64;
 
 // A place in line, given at opening. A type of its own, so that no tick can stand in its place.
+#[repr(C)]
 pub struct Turn(pub u64);
 
 // What is kept of a job's request. Turn 0 makes the row idle.
+#[repr(C)]
 pub struct Row {
     pub turn: Turn,
     pub declared: u64,

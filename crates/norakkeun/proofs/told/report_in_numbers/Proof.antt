@@ -1,0 +1,24 @@
+-- A refusal is its number, a report itself.
+use borrow.Author.Needs.{needs}
+use Rattle.norakkeun.proofs.told.report_in_numbers.Statement.{statement}
+use Rattle.norakkeun.proofs.told.report_in_numbers.Tie as tie
+
+enum-known-reported : tie.Need-enum-known-reported
+enum-known-reported c = search needs
+
+number-requires : tie.Need-number-requires
+number-requires c κs = search needs
+
+enum-known-reported-2 : tie.Need-enum-known-reported-2
+enum-known-reported-2 c = search needs
+
+returns : tie.Need-returns
+returns c = rw (c .before .before .reported .given .1, c .number .ensures)
+
+returns-2 : tie.Need-returns-2
+returns-2 c = rw (c .before .reported2 .given .1)
+
+pub report-in-numbers-spec : {M : Type 1} → statement M
+report-in-numbers-spec =
+    tie.close
+    (tie.spec enum-known-reported number-requires enum-known-reported-2 returns returns-2)

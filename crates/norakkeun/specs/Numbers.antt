@@ -1,0 +1,74 @@
+-- Answers in numbers: what firmware in C or Rust is told.
+use Prim.Native.Nat.{ℕ}
+use mathlib.Core.Bool.{false}
+use mathlib.Core.List.{List}
+use mathlib.Core.Path.{_≡_}
+use Rattle.event.specs.declared.said.Entry.{Entry}
+use Rattle.event.specs.declared.said.Event.{Event}
+use Rattle.laws.specs.Cases.{Outcome, fine, refused}
+use Rattle.record.specs.Format.{left, wrote}
+use Rattle.arbiter.specs.Answers.{Said, done, granted, token, wait, woke}
+use Rattle.arbiter.specs.Meaning.{answer, next}
+use Rattle.arbiter.specs.declared.table.Report.{Report}
+use Rattle.arbiter.specs.declared.table.Table.{Table}
+use Rattle.norakkeun.specs.declared.told.JobReport.{JobReport}
+use Rattle.norakkeun.specs.declared.told.LateJobs.{LateJobs}
+use Rattle.norakkeun.specs.declared.told.Told.{Told}
+
+-- the number of a refusal, or 0
+abbrev pub refusalIn : {A : Type 0} → Outcome A → ℕ
+refusalIn (refused n) = n
+refusalIn (fine a) = 0
+
+-- what was said: 0 a refusal, 1 "token", 2 "granted", 3 "wait", 4 simply done, 5 some were woken, or none
+abbrev pub saidIn : Outcome Said → ℕ
+saidIn (refused n) = 0
+saidIn (fine token) = 1
+saidIn (fine granted) = 2
+saidIn (fine wait) = 3
+saidIn (fine done) = 4
+saidIn (fine (woke n)) = 5
+
+-- how many were woken
+abbrev pub wokenIn : Outcome Said → ℕ
+wokenIn (refused n) = 0
+wokenIn (fine token) = 0
+wokenIn (fine granted) = 0
+wokenIn (fine wait) = 0
+wokenIn (fine done) = 0
+wokenIn (fine (woke n)) = n
+
+-- an event's answer and the next table
+abbrev pub eventInNumbers : Outcome Said → Table → Told
+eventInNumbers o t = record { refusal = refusalIn o; said = saidIn o; woken = wokenIn o; table = t }
+
+-- the report where there is none
+abbrev pub noReport : Report
+noReport = record { turn = record { 0 = 0 }; token = false; waiting = false; ahead = 0; in_way = 0 }
+
+-- the report that was given
+abbrev pub reportIn : Outcome Report → Report
+reportIn (refused n) = noReport
+reportIn (fine r) = r
+
+-- a report's answer
+abbrev pub reportInNumbers : Outcome Report → JobReport
+reportInNumbers o = record { refusal = refusalIn o; report = reportIn o }
+
+-- how many jobs
+abbrev pub countIn : Outcome ℕ → ℕ
+countIn (refused n) = 0
+countIn (fine n) = n
+
+-- the answer to who is overdue
+abbrev pub lateInNumbers : Outcome ℕ → LateJobs
+lateInNumbers o = record { refusal = refusalIn o; count = countIn o }
+
+-- what event e on table t is told, with a list of n entries lent
+abbrev pub eventTold : ℕ → Table → Event → Told
+eventTold n t e = eventInNumbers (answer n t e) (next n t e)
+
+-- writing e into the room `before` answered r and left `after` there
+pub record Recorded (e : Entry) (before : List ℕ) (r : ℕ) (after : List ℕ) : Type 0 where
+  pub answers : r ≡ refusalIn (wrote e before)
+  pub leaves : after ≡ left e before

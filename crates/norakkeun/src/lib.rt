@@ -1,0 +1,23 @@
+// What firmware in C or Rust links: the calls on a table and the writing of records, under C's names and in C's layout.
+// `norakkeun.h` beside this folder declares them once more; nothing but the example's run holds the two together.
+mod calls;
+mod records;
+mod told;
+
+pub use calls::norakkeun_ask;
+pub use calls::norakkeun_beat;
+pub use calls::norakkeun_complete;
+pub use calls::norakkeun_open;
+pub use calls::norakkeun_overdue;
+pub use calls::norakkeun_release;
+pub use calls::norakkeun_report;
+pub use calls::norakkeun_start;
+pub use records::norakkeun_record_ask;
+pub use records::norakkeun_record_beat;
+pub use records::norakkeun_record_complete;
+pub use records::norakkeun_record_open;
+pub use records::norakkeun_record_release;
+pub use records::norakkeun_record_start;
+pub use told::JobReport;
+pub use told::LateJobs;
+pub use told::Told;
