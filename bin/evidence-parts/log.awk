@@ -45,7 +45,7 @@ NF { last = $0 }
 /^evidence: (toolchain|commit|state|sources|status|ended) / { split($0, a, " "); print "ran", a[2], after(a[2] " ") }
 
 /^fn .*: proved$/ { proved++; name = after("fn "); sub(/: proved$/, "", name); hold("function", name) }
-/^fn .*: not proved/ { hold("unproved", $0) }
+/^fn / && !/: proved$/ { hold("unproved", $0) }
 /^axioms [^ ]+: / { hold("axioms", after("axioms ")) }
 /^linked / { hold("linked", word("files")) }
 /^logic=proved / {
@@ -57,13 +57,18 @@ NF { last = $0 }
 }
 
 /^rt: [a-z0-9_]+ proved \([0-9]+ s\)$/ { split($0, a, " "); crate_ends(a[2], "proved") }
-/^rt: [a-z0-9_]+ proved \(unchanged/ { split($0, a, " "); crate_ends(a[2], "not proved anew") }
+/^rt: [a-z0-9_]+ proved \(unchanged/ { split($0, a, " "); crate_ends(a[2], "NOT PROVED ANEW") }
 /^rt: [a-z0-9_]+ NOT PROVED/ { split($0, a, " "); crate_ends(a[2], "NOT PROVED"); print "wrong", $0 }
 /^rt: [a-z0-9_]+ ran( as nobody)?, and wrote what/ { split($0, a, " "); print "program", a[2], after(a[2] " ") }
 /^rt: [a-z0-9_]+ proved, and its run FAILED/ { print "wrong", $0 }
 /^rt: must-fail / { edit_ends() }
 /^rt: (FAILED|in no crate)/ { print "wrong", $0 }
-/^(gate|compare|compare-breaks): (FAILED|DIFFERENCE): / { print "wrong", $0 }
+/^(gate|evidence test|firmware|compare|compare-breaks): (FAILED|DIFFERENCE): / { print "wrong", $0 }
+/^[0-9]+ passed, [0-9]+ failed$/ { print "verdict", $0 }
+
+# A later part of the gate may say more on the way; its closing line is the last.
+/^evidence test: / { trial = after("evidence test: ") }
+/^firmware: / { firmware = after("firmware: ") }
 
 /^test result: / {
     print "model", after("test result: ")
@@ -75,4 +80,8 @@ NF { last = $0 }
 /^compare-breaks: [^ ]+: found: / { split($0, a, ": "); print "found", a[2], after(": found: ") }
 /^compare-breaks: [0-9]+ broken rules, each found$/ { print "breaks", after("compare-breaks: ") }
 
-END { print "last", last }
+END {
+    if (trial != "") print "trial", trial
+    if (firmware != "") print "firmware", firmware
+    print "last", last
+}

@@ -4,6 +4,7 @@
 BEGIN { FS = OFS = "\t" }
 
 function why(text) { if (!(text in said)) { said[text] = 1; reason[++reasons] = text } }
+function twice(what) { if (!twice_said++) said_twice = what }
 function note(text) { notes[++noted] = text }
 function orelse(value, other) { return value == "" ? other : value }
 
@@ -18,9 +19,13 @@ FNR == NR && $1 == "theorem" { theorem[++theorem_lines] = substr($0, 9); next }
 FNR == NR { tree[$1] = $2; next }
 
 # ---- the gate's output
-# A gate speaks of each crate and edit once; twice means that the outputs of two runs are mixed, and the later would hide the other.
-$1 == "checked" && $2 in result { why("crate " $2 ": the output speaks of it twice, so it is not of one run") }
-$1 == "tried" && $2 in outcome { why("must-fail edit " $2 ": the output speaks of it twice, so it is not of one run") }
+# A gate says each of these once; twice means that the outputs of two runs are mixed, and the later would hide the other.
+$1 == "checked" && $2 in result { twice("crate " $2) }
+$1 == "tried" && $2 in outcome { twice("must-fail edit " $2) }
+$1 == "found" && $2 in found { twice("broken rule " $2) }
+$1 == "ran" && $2 in ran { twice("the gate's " $2) }
+$1 == "alike" && $1 in gate { twice("the comparison with the model") }
+$1 == "verdict" && $1 in gate { twice("'N passed, 0 failed'") }
 $1 == "checked" { result[$2] = $3; functions[$2] = $4; listed[$2] = $5 + 0; took[$2] = $6; rests[$2] = $7; counted[$2] = $8 + 0 }
 $1 == "function" { names[$2] = names[$2] (names[$2] == "" ? "" : ", ") $3 }
 $1 == "unproved" { why($3); failed = 1 }
@@ -32,7 +37,8 @@ $1 == "wrong" { why($2); failed = 1 }
 $1 == "compared" { compared[++compared_count] = $2 OFS $3 OFS $4 OFS $5 OFS $6 }
 $1 == "found" { found[$2] = $3 }
 $1 == "ran" { ran[$2] = $3 }
-$1 ~ /^(seed|alike|breaks|last)$/ { gate[$1] = $2 }
+$1 ~ /^(seed|alike|breaks|trial|firmware|verdict|last)$/ { gate[$1] = $2 }
+$1 == "verdict" && $2 !~ /, 0 failed$/ { why("the output says: " $2); failed = 1 }
 $1 == "model" { gate["model"] = (gate["model"] == "" ? "" : gate["model"] " | ") $2 }
 
 # ---- what speaks against a pass
@@ -64,21 +70,31 @@ function look_at_edits(    i, e, unsaid) {
 # An axiom is expected of the kit's libraries that a program reaches, and of nothing else.
 function look_at_axioms(    i, c) {
     for (i = 1; i <= axiom_count; i++)
-        if (origin(i) !~ /^kit/) why("axiom in crate " axiom_in[i] ", not of the kit: " axioms[i])
+        if (origin(i) !~ /^kit/) why("axiom in crate " axiom_in[i] ": " axioms[i] " - " origin(i))
         else if (!tree["program " axiom_in[i]]) why("axiom in crate " axiom_in[i] ", which is no program: " axioms[i])
     for (i = 1; i <= declared; i++) why("the sources declare what nothing proves: " declares[i])
     for (c in counted) if (counted[c] && !has_axioms[c]) why("crate " c ": " counted[c] " axioms counted, and none named")
 }
 
 function look_at_comparisons(    i, unsaid) {
+    if (gate["trial"] == "") why("the test of this sheet (tests/evidence): the output does not say that it came to its end")
     if (gate["model"] == "") why("the model's own tests: the output says nothing of them")
+    else if (gate["model"] !~ /[1-9][0-9]* passed/) why("the model's own tests: none passed")
     if (!("alike" in gate)) why("the comparison with the model: the output does not say that it came to its end")
     if (!("breaks" in gate)) why("the comparison's own trial (.ci/compare-breaks): the output does not say that it came to its end")
     for (i = 1; i <= break_count; i++) if (!(breaks[i] in found)) unsaid++
     if (unsaid) why("broken rules of the model: the output does not say that " unsaid " of " break_count " were found (MISSING in their table)")
+    if (tree["has firmware"] && gate["firmware"] == "") why("the firmware examples (.ci/firmware): the output says nothing of them")
+    if (tolower(gate["firmware"]) ~ /not run/) note("The firmware examples: " gate["firmware"])
+}
+
+function look_at_demand() {
+    if (!theorem_lines) why("demand 3: no file of crates/promises/specs has the theorem demand3")
 }
 
 function look_at_end(    a) {
+    if (twice_said)
+        why("the output speaks twice of " said_twice (twice_said > 1 ? " and of " twice_said - 1 " more" : "") ", so it is not of one run")
     if (gate["last"] !~ /^[0-9]+ passed, 0 failed$/) {
         failed = 1
         why("the output does not end with 'N passed, 0 failed', but with: " gate["last"])
@@ -95,15 +111,11 @@ function look_at_identity(    i, sum) {
         if (sum != "" && index(tree["toolchain"], sum) == 0)
             why("crate " crates[i] " was proved with the logic " sum ", and this toolchain is " tree["toolchain"])
     }
-    if (tree["state"] != "clean") note("The tree is not the commit: " tree["state"] ".")
-    if (!("sources" in ran)) {
-        note("The output does not name its sources (only one that bin/evidence kept does): that it is of this tree is not shown beyond the names of crates and edits.")
-        if (tree["newer"] > 0) note(tree["newer"] " files of the tree are newer than the output.")
-        return
-    }
+    if (tree["state"] != "clean") why("the tree is not its commit: " tree["state"])
+    if (!("sources" in ran)) { why("the output does not name its sources, so that it is of this tree is not shown"); return }
     if (ran["toolchain"] != tree["toolchain"]) why("the gate ran with the toolchain " ran["toolchain"] ", and this one is " tree["toolchain"])
     if (ran["sources"] != tree["sources"]) why("the gate ran on other sources, at commit " ran["commit"])
-    else if (ran["commit"] != tree["commit"]) note("The gate ran on the same sources at commit " ran["commit"] ".")
+    else if (ran["commit"] != tree["commit"]) note("The gate ran at commit " ran["commit"] ", whose files that it reads are the same.")
     same = ran["sources"] == tree["sources"]
 }
 
@@ -138,15 +150,17 @@ function axioms_of(c) {
 
 function refused_of(c,    i, n) {
     for (i = 1; i <= edit_count; i++) if (index(edits[i], c "/") == 1 && outcome[edits[i]] == "refused") n++
-    return n + 0 " of " edits_of[c] + 0
+    return !edits_of[c] ? "none" : (n < edits_of[c] ? "NOT ALL: " : "") n + 0 " of " edits_of[c]
 }
 
 # ---- the sheet
 function show_top(    i) {
+    if (failed) verdict = "THE GATE FAILED"
+    else if (reasons) verdict = "NOT IN ORDER, although the output ends as passed"
+    else verdict = "The gate passed: " gate["last"]
+    print "foot", "Norakkeun, commit " orelse(ran["commit"], "not said") ": " verdict
     print "title", "Norakkeun: what the gate showed"
-    if (failed) print "fail", "THE GATE FAILED"
-    else if (reasons) print "fail", "NOT IN ORDER, although the output ends as passed"
-    else print "pass", "The gate passed: " gate["last"]
+    print reasons ? "fail" : "pass", verdict
     for (i = 1; i <= reasons; i++) print "why", reason[i]
     for (i = 1; i <= noted; i++) print "note", notes[i]
 }
@@ -154,12 +168,18 @@ function show_top(    i) {
 function show_identity() {
     print "head", "Of what"
     print "cols", "What", "Is"
-    print "row", "toolchain", tree["toolchain"]
-    print "row", "commit", tree["commit"]
-    print "row", "tree", tree["state"]
-    print "row", "sources", tree["sources"]
+    print "row", "toolchain", then_and_now("toolchain")
+    print "row", "commit", then_and_now("commit")
+    print "row", "tree", then_and_now("state")
+    print "row", "sources", then_and_now("sources")
     print "row", "output", tree["output"]
     if ("ended" in ran) print "row", "gate ended", ran["ended"]
+    if (!reasons) print "sign", "Name", "Date", "Signature"
+}
+
+function then_and_now(what) {
+    if (!(what in ran)) return "NOT SAID by the output; of this tree: " tree[what]
+    return ran[what] == tree[what] ? tree[what] : ran[what] " when the gate ran, " tree[what] " now"
 }
 
 function show_crates(    i, c, f, s) {
@@ -192,17 +212,18 @@ function show_rests(    i) {
     show_trust()
 }
 
-# Crates whose verdicts say the same share a row.
-function show_trust(    i, w, n, words, of) {
+function show_trust(    i) {
     print "para", "What the verdicts say they took on trust (the toolchain's guide DESIGN.md, under Verdict, says what the words mean), and C code that programs link:"
     print "cols", "words", "crates"
-    for (i = 1; i <= crate_count; i++) {
-        w = orelse(rests[crates[i]], "NOT SAID")
-        if (!(w in of)) words[++n] = w
-        of[w] = of[w] " " crates[i]
-    }
-    for (i = 1; i <= n; i++) print "row", words[i], substr(of[words[i]], 2)
-    for (i = 1; i <= crate_count; i++) if (c_code(crates[i]) != "") print "row", c_code(crates[i]), crates[i]
+    for (i = 1; i <= crate_count; i++) share(orelse(rests[crates[i]], "NOT SAID"), crates[i])
+    for (i = 1; i <= crate_count; i++) if (c_code(crates[i]) != "") share(c_code(crates[i]), crates[i])
+    for (i = 1; i <= shares; i++) print "row", shared[i], substr(sharing[shared[i]], 2)
+}
+
+# Crates that have the same to say share a row.
+function share(words, c) {
+    if (!(words in sharing)) shared[++shares] = words
+    sharing[words] = sharing[words] " " c
 }
 
 # What is linked besides the program's own object.
@@ -233,6 +254,8 @@ function show_comparisons(    i) {
     print "row", "programs and model", orelse(gate["alike"], "MISSING")
     print "row", "seed", orelse(gate["seed"], "MISSING")
     print "row", "broken rules", orelse(gate["breaks"], "MISSING")
+    if (tree["has firmware"] || gate["firmware"] != "") print "row", "firmware examples", orelse(gate["firmware"], "MISSING")
+    print "row", "test of this sheet", orelse(gate["trial"], "MISSING")
     if (gate["seed"] != "") print "para", "To repeat the comparison: .ci/compare " gate["seed"]
     show_kinds()
     show_breaks()
@@ -269,7 +292,7 @@ function show_demand(    i) {
 function show_functions(    i) {
     print "head", "Functions proved, by name"
     print "cols", "crate", "functions"
-    for (i = 1; i <= crate_count; i++) print "row", crates[i], orelse(names[crates[i]], "none")
+    for (i = 1; i <= crate_count; i++) print "row", crates[i], orelse(names[crates[i]], crates[i] in result ? "none" : "MISSING")
 }
 
 END {
@@ -282,7 +305,8 @@ END {
     show_comparisons()
     show_demand()
     show_functions()
-    exit reasons > 0
+    print "end" # bin/evidence takes a sheet without this line as cut off
+    exit (reasons > 0)
 }
 
 # The end is judged by what was counted, so it comes last; the reasons then stand in the order of the gate's parts.
@@ -291,6 +315,7 @@ function judge() {
     look_at_edits()
     look_at_axioms()
     look_at_comparisons()
+    look_at_demand()
     look_at_identity()
     look_at_end()
 }

@@ -44,6 +44,7 @@ $1 == "why" { print "  !! " $2 }
 $1 == "note" { print "  -- " $2 }
 $1 == "head" { print ""; print $2; print line("-", length($2)); print "" }
 $1 == "para" { print $2; print "" }
+$1 == "sign" { for (c = 2; c <= NF; c++) { print "  " $c ": " line("_", 50); print "" } }
 $1 == "cols" { table_begins() }
 $1 == "row" { add() }
 $1 == "code" { print "    " substr($0, 6) }
