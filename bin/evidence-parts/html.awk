@@ -21,14 +21,13 @@ function on_screen() {
     print ".why, .note { margin: .4em 0; padding: .1em 1em; border-left: 5px solid #b00020; overflow-wrap: anywhere }"
     print ".why { color: #b00020; font-weight: bold } .note { border-color: #b86e00 }"
     print ".wide { overflow-x: auto; margin: .6em 0 } table { border-collapse: collapse }"
-    print "th, td { padding: .15em .7em; text-align: left; vertical-align: top; overflow-wrap: break-word }"
-    print "th, .n, td:first-child { white-space: nowrap } .n { text-align: right }"
+    print "th, td { padding: .15em .7em; text-align: left; vertical-align: top; overflow-wrap: anywhere }"
+    print "th, .n, .short { white-space: nowrap } .n { text-align: right } td:last-child:not(.n, .short) { min-width: 16em }"
     print "th { border-bottom: 2px solid #555 } tbody tr:nth-child(odd) td { background: #f2f2f2 }"
     print "td.bad { color: #b00020; font-weight: bold }"
     print "pre { background: #f2f2f2; padding: 1em; overflow-x: auto; font-size: 13px }"
     print ".sign { display: flex; flex-wrap: wrap; gap: 1em; margin: 2em 0 }"
     print ".sign span { flex: 1 1 11em; border-top: 1px solid #111; margin-top: 2.5em }"
-    print "@media (max-width: 45em) { .hash { word-break: break-all } }"
 }
 
 # A browser leaves backgrounds out when it prints, so the verdict is black on white in a frame there.
@@ -38,13 +37,13 @@ function on_paper() {
     print ".why, td.bad { color: #000; text-decoration: underline } .why, .note { border-color: #000 }"
     print "h2 { break-after: avoid } tr, .sign { break-inside: avoid } tbody td { border-bottom: 1px solid #ccc }"
     print ".wide { overflow: visible } th, td { padding: .1em .5em }"
-    print "pre { white-space: pre-wrap; overflow-wrap: anywhere; padding: 0; font-size: 7.5pt }"
+    print "pre { white-space: pre-wrap; overflow-wrap: anywhere; padding: 0; font-size: 6.7pt }"
 }
 
 # Every printed page says of which commit it is and how the gate ended: a page may part from the first.
 function foot(text) {
-    gsub(/[^A-Za-z0-9 ,:-]/, "", text)
-    print "@page { margin: 14mm 14mm 18mm; @bottom-left { content: \"" text "\"; font: 8pt sans-serif }"
+    gsub(/[^A-Za-z0-9 ,:+-]/, "", text)
+    print "@page { margin: 14mm 12mm 18mm; @bottom-left { content: \"" text "\"; font: 8pt sans-serif }"
     print "@bottom-right { content: counter(page) \" of \" counter(pages); font: 8pt sans-serif } }"
 }
 
@@ -59,10 +58,12 @@ function go(to) {
     place = to
 }
 
-function class_of(c) {
-    if ($c ~ /^(NOT |BAD |MISSING)/) return " class=\"bad\""
-    if ($c ~ /[0-9a-f][0-9a-f][0-9a-f][0-9a-f][0-9a-f][0-9a-f][0-9a-f][0-9a-f][0-9a-f][0-9a-f][0-9a-f][0-9a-f]/) return " class=\"hash\""
-    return right[c] ? " class=\"n\"" : ""
+function class_of(c,    classes) {
+    if ($c ~ /^(NOT |BAD |MISSING)/) classes = " bad"
+    if (right[c]) classes = classes " n"
+    else if (length($c) <= 20) classes = classes " short"
+    else if (c == 2 && $c !~ / /) classes = classes " short"
+    return classes == "" ? "" : " class=\"" substr(classes, 2) "\""
 }
 
 function cells(tag,    c) {

@@ -7,6 +7,8 @@ function why(text) { if (!(text in said)) { said[text] = 1; reason[++reasons] = 
 function twice(what) { if (!twice_said++) said_twice = what }
 function note(text) { notes[++noted] = text }
 function orelse(value, other) { return value == "" ? other : value }
+# Asks for the key first: an element that comes to be as a call's argument brings gawk 5.2.1 down.
+function at(array, key, other) { return key in array ? orelse(array[key], other) : other }
 
 # ---- the tree
 FNR == NR && $1 == "crate" { crates[++crate_count] = $2; deps[$2] = $3; known[$2] = 1; next }
@@ -144,7 +146,7 @@ function origin(i,    from) {
 # A library's check names no axioms of the kit's libraries below it: the programs above it do.
 function axioms_of(c) {
     if (result[c] != "proved") return "-"
-    if (has_axioms[c]) return orelse(counted[c] ? counted[c] : "", "NOT COUNTED")
+    if (has_axioms[c]) return counted[c] ? counted[c] : "NOT COUNTED"
     return kit_of(c) == "" || tree["program " c] ? "0" : "see programs"
 }
 
@@ -158,7 +160,7 @@ function show_top(    i) {
     if (failed) verdict = "THE GATE FAILED"
     else if (reasons) verdict = "NOT IN ORDER, although the output ends as passed"
     else verdict = "The gate passed: " gate["last"]
-    print "foot", "Norakkeun, commit " orelse(ran["commit"], "not said") ": " verdict
+    print "foot", "Norakkeun, commit " at(ran, "commit", "not said") ": " verdict
     print "title", "Norakkeun: what the gate showed"
     print reasons ? "fail" : "pass", verdict
     for (i = 1; i <= reasons; i++) print "why", reason[i]
@@ -188,8 +190,8 @@ function show_crates(    i, c, f, s) {
     print "cols", "crate", "result", ">functions", ">src", ">specs", ">proofs", ">axioms", ">edits refused", ">seconds", "kit libraries"
     for (i = 1; i <= crate_count; i++) {
         c = crates[i]
-        print "row", c, orelse(result[c], "MISSING"), orelse(functions[c], "-"), lines[c, "src"] + 0, lines[c, "specs"] + 0, \
-            lines[c, "proofs"] + 0, axioms_of(c), refused_of(c), orelse(took[c], "-"), orelse(kit_of(c), "none")
+        print "row", c, at(result, c, "MISSING"), at(functions, c, "-"), lines[c, "src"] + 0, lines[c, "specs"] + 0, \
+            lines[c, "proofs"] + 0, axioms_of(c), refused_of(c), at(took, c, "-"), orelse(kit_of(c), "none")
         f += functions[c]
         s += took[c]
     }
@@ -215,7 +217,7 @@ function show_rests(    i) {
 function show_trust(    i) {
     print "para", "What the verdicts say they took on trust (the toolchain's guide DESIGN.md, under Verdict, says what the words mean), and C code that programs link:"
     print "cols", "words", "crates"
-    for (i = 1; i <= crate_count; i++) share(orelse(rests[crates[i]], "NOT SAID"), crates[i])
+    for (i = 1; i <= crate_count; i++) share(at(rests, crates[i], "NOT SAID"), crates[i])
     for (i = 1; i <= crate_count; i++) if (c_code(crates[i]) != "") share(c_code(crates[i]), crates[i])
     for (i = 1; i <= shares; i++) print "row", shared[i], substr(sharing[shared[i]], 2)
 }
@@ -239,23 +241,23 @@ function show_edits(    i, e) {
     print "cols", "edit", "result", ">seconds", "what it tried"
     for (i = 1; i <= edit_count; i++) {
         e = edits[i]
-        print "row", e, orelse(outcome[e], "MISSING"), orelse(edit_took[e], "-"), tries[e]
+        print "row", e, at(outcome, e, "MISSING"), at(edit_took, e, "-"), tries[e]
     }
     for (i = 1; i <= tried_count; i++)
-        if (!(tried[i] in tries)) print "row", tried[i], outcome[tried[i]], orelse(edit_took[tried[i]], "-"), "NOT IN THE TREE"
+        if (!(tried[i] in tries)) print "row", tried[i], outcome[tried[i]], at(edit_took, tried[i], "-"), "NOT IN THE TREE"
 }
 
 function show_comparisons(    i) {
     print "head", "What was run and compared"
     print "cols", "What", "The output says"
     for (i = 1; i <= crate_count; i++)
-        if (tree["program " crates[i]]) print "row", "program " crates[i], orelse(wrote[crates[i]], "MISSING")
-    print "row", "model's own tests", orelse(gate["model"], "MISSING")
-    print "row", "programs and model", orelse(gate["alike"], "MISSING")
-    print "row", "seed", orelse(gate["seed"], "MISSING")
-    print "row", "broken rules", orelse(gate["breaks"], "MISSING")
-    if (tree["has firmware"] || gate["firmware"] != "") print "row", "firmware examples", orelse(gate["firmware"], "MISSING")
-    print "row", "test of this sheet", orelse(gate["trial"], "MISSING")
+        if (tree["program " crates[i]]) print "row", "program " crates[i], at(wrote, crates[i], "MISSING")
+    print "row", "model's own tests", at(gate, "model", "MISSING")
+    print "row", "programs and model", at(gate, "alike", "MISSING")
+    print "row", "seed", at(gate, "seed", "MISSING")
+    print "row", "broken rules", at(gate, "breaks", "MISSING")
+    if (tree["has firmware"] || gate["firmware"] != "") print "row", "firmware examples", at(gate, "firmware", "MISSING")
+    print "row", "test of this sheet", at(gate, "trial", "MISSING")
     if (gate["seed"] != "") print "para", "To repeat the comparison: .ci/compare " gate["seed"]
     show_kinds()
     show_breaks()
@@ -271,7 +273,7 @@ function show_kinds(    i) {
 function show_breaks(    i) {
     print "para", "Rules of the model that were broken on purpose, for the comparison to find:"
     print "cols", "rule", "found", "what was broken"
-    for (i = 1; i <= break_count; i++) print "row", breaks[i], orelse(found[breaks[i]], "MISSING"), rule[breaks[i]]
+    for (i = 1; i <= break_count; i++) print "row", breaks[i], at(found, breaks[i], "MISSING"), rule[breaks[i]]
 }
 
 # The text below is the tree's; it is what was proved only if the gate ran on these very sources.
@@ -292,7 +294,7 @@ function show_demand(    i) {
 function show_functions(    i) {
     print "head", "Functions proved, by name"
     print "cols", "crate", "functions"
-    for (i = 1; i <= crate_count; i++) print "row", crates[i], orelse(names[crates[i]], crates[i] in result ? "none" : "MISSING")
+    for (i = 1; i <= crate_count; i++) print "row", crates[i], at(names, crates[i], crates[i] in result ? "none" : "MISSING")
 }
 
 END {
