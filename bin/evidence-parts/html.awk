@@ -61,8 +61,7 @@ function go(to) {
 function class_of(c,    classes) {
     if ($c ~ /^(NOT |BAD |MISSING)/) classes = " bad"
     if (right[c]) classes = classes " n"
-    else if (length($c) <= 20) classes = classes " short"
-    else if (c == 2 && $c !~ / /) classes = classes " short"
+    else if (length($c) <= 20 || (c == 2 && $c !~ / /)) classes = classes " short"
     return classes == "" ? "" : " class=\"" substr(classes, 2) "\""
 }
 
