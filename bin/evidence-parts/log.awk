@@ -66,9 +66,8 @@ NF { last = $0 }
 /^(gate|evidence test|firmware|compare|compare-breaks): (FAILED|DIFFERENCE): / { print "wrong", $0 }
 /^[0-9]+ passed, [0-9]+ failed$/ { print "verdict", $0 }
 
-# A later part of the gate may say more on the way; its closing line is the last.
-/^evidence test: / { trial = after("evidence test: ") }
-/^firmware: / { firmware = after("firmware: ") }
+/^evidence test: / { print "trial", after("evidence test: ") }
+/^firmware: / { print "firmware", after("firmware: ") }
 
 /^test result: / {
     print "model", after("test result: ")
@@ -80,8 +79,4 @@ NF { last = $0 }
 /^compare-breaks: [^ ]+: found: / { split($0, a, ": "); print "found", a[2], after(": found: ") }
 /^compare-breaks: [0-9]+ broken rules, each found$/ { print "breaks", after("compare-breaks: ") }
 
-END {
-    if (trial != "") print "trial", trial
-    if (firmware != "") print "firmware", firmware
-    print "last", last
-}
+END { print "last", last }

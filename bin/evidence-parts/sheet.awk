@@ -39,7 +39,8 @@ $1 == "wrong" { why($2); failed = 1 }
 $1 == "compared" { compared[++compared_count] = $2 OFS $3 OFS $4 OFS $5 OFS $6 }
 $1 == "found" { found[$2] = $3 }
 $1 == "ran" { ran[$2] = $3 }
-$1 ~ /^(seed|alike|breaks|trial|firmware|verdict|last)$/ { gate[$1] = $2 }
+$1 == "firmware" { firmware[++firmware_lines] = $2 }
+$1 ~ /^(seed|alike|breaks|trial|verdict|last)$/ { gate[$1] = $2 }
 $1 == "verdict" && $2 !~ /, 0 failed$/ { why("the output says: " $2); failed = 1 }
 $1 == "model" { gate["model"] = (gate["model"] == "" ? "" : gate["model"] " | ") $2 }
 
@@ -86,8 +87,8 @@ function look_at_comparisons(    i, unsaid) {
     if (!("breaks" in gate)) why("the comparison's own trial (.ci/compare-breaks): the output does not say that it came to its end")
     for (i = 1; i <= break_count; i++) if (!(breaks[i] in found)) unsaid++
     if (unsaid) why("broken rules of the model: the output does not say that " unsaid " of " break_count " were found (MISSING in their table)")
-    if (tree["has firmware"] && gate["firmware"] == "") why("the firmware examples (.ci/firmware): the output says nothing of them")
-    if (tolower(gate["firmware"]) ~ /not run/) note("The firmware examples: " gate["firmware"])
+    if (tree["has firmware"] && !firmware_lines) why("the firmware examples (.ci/firmware): the output says nothing of them")
+    for (i = 1; i <= firmware_lines; i++) if (firmware[i] ~ /not run/) note("The firmware examples: " firmware[i])
 }
 
 function look_at_demand() {
@@ -256,7 +257,8 @@ function show_comparisons(    i) {
     print "row", "programs and model", at(gate, "alike", "MISSING")
     print "row", "seed", at(gate, "seed", "MISSING")
     print "row", "broken rules", at(gate, "breaks", "MISSING")
-    if (tree["has firmware"] || gate["firmware"] != "") print "row", "firmware examples", at(gate, "firmware", "MISSING")
+    for (i = 1; i <= firmware_lines; i++) print "row", "firmware examples", firmware[i]
+    if (tree["has firmware"] && !firmware_lines) print "row", "firmware examples", "MISSING"
     print "row", "test of this sheet", at(gate, "trial", "MISSING")
     if (gate["seed"] != "") print "para", "To repeat the comparison: .ci/compare " gate["seed"]
     show_kinds()
