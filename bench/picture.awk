@@ -34,21 +34,31 @@ function axes(size, power) {
     label(left, top - 14, "start", "instructions of a call (solid: ask, granted; dashed: complete)")
 }
 
+# Each program has its own shape, so that the curves can be told apart without their colours.
+function mark(i, at, height) {
+    if (i == 1) printf "<circle cx=\"%.1f\" cy=\"%.1f\" r=\"4\"", at, height
+    else if (i == 2) printf "<rect x=\"%.1f\" y=\"%.1f\" width=\"7\" height=\"7\"", at - 3.5, height - 3.5
+    else printf "<path d=\"M%.1f %.1fl5 8h-10z\"", at, height - 5
+    printf " fill=\"%s\"/>\n", colours[i]
+}
+
 function curve(i, call, dash, size, points) {
     for (size = 1; size <= 64; size *= 2)
         if (cost[i, call, size] > 0) points = points sprintf("%.1f,%.1f ", x(size), y(cost[i, call, size]))
     printf "<polyline points=\"%s\" fill=\"none\" stroke=\"%s\" stroke-width=\"2\"%s/>\n", points, colours[i], dash
+    for (size = 1; size <= 64; size *= 2)
+        if (cost[i, call, size] > 0) mark(i, x(size), y(cost[i, call, size]))
 }
 
 END {
-    print "<svg xmlns=\"http://www.w3.org/2000/svg\" viewBox=\"0 0 640 530\" font-family=\"sans-serif\" font-size=\"13\">"
-    print "<rect width=\"640\" height=\"530\" fill=\"#fff\"/>"
+    print "<svg xmlns=\"http://www.w3.org/2000/svg\" viewBox=\"0 0 640 520\" font-family=\"sans-serif\" font-size=\"13\">"
+    print "<rect width=\"640\" height=\"520\" fill=\"#fff\"/>"
     axes()
     for (i = 1; i <= 3; i++) {
         curve(i, "ask", "")
         curve(i, "complete", " stroke-dasharray=\"7 4\"")
-        printf "<rect x=\"%d\" y=\"497\" width=\"14\" height=\"14\" fill=\"%s\"/>\n", left + (i - 1) * 170, colours[i]
-        label(left + (i - 1) * 170 + 20, 509, "start", said[i])
+        mark(i, left + (i - 1) * 170 + 7, 499)
+        label(left + (i - 1) * 170 + 20, 504, "start", said[i])
     }
     print "</svg>"
 }
