@@ -7,7 +7,7 @@ function why(text) { if (!(text in said)) { said[text] = 1; reason[++reasons] = 
 function twice(what) { if (!twice_said++) said_twice = what }
 function note(text) { notes[++noted] = text }
 function orelse(value, other) { return value == "" ? other : value }
-# Asks for the key first: an element that comes to be as a call's argument brings gawk 5.2.1 down.
+# Asks for the key first: an absent element as a call's argument brought gawk 5.2.1 down.
 function at(array, key, other) { return key in array ? orelse(array[key], other) : other }
 
 # ---- the tree
