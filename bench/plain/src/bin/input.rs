@@ -3,21 +3,30 @@
 //! ```text
 //! input case CALL LIVE ORDER COUNT    COUNT times the same accepted call
 //! input around CALL LIVE ORDER COUNT  the same, but refused before the table is looked at
+//! input refused LENGTH COUNT          COUNT times a completion that is refused for its list of LENGTH, on the table
+//!                                     that the first line `table` of standard input shows
 //! input records CALLS LIVE COUNT      a recording: LIVE requests, then COUNT records of these calls in turn
 //! ```
 //!
-//! ORDER is `rising` (turns in order of job), `falling` or `mixed`.
+//! ORDER is `rising` (turns in order of job) or `mixed`.
 
-use std::io::{self, Write};
+use std::io::{self, BufRead, Write};
 
 const JOBS: usize = 64;
 const TOKENS: usize = 8;
 const LIMIT: u64 = 1000;
 /// Past the first wrap of the tick.
 const TIME: u64 = 5_000_000_000;
+const COMPLETE: u8 = 4;
 const WRITE_OPEN: u8 = 9;
 
 type Row = [u64; 5];
+
+/// As a case holds it and a program shows it: T, R, limit, true time and last turn, then the rows.
+struct Table {
+    numbers: [u64; 5],
+    rows: [Row; JOBS],
+}
 
 /// The call's number, job, set and length of the lent list.
 struct Call {
@@ -29,9 +38,8 @@ struct Call {
 }
 
 /// The job of the request at this place in line.
-fn job_at(order: &str, live: usize, place: usize) -> usize {
+fn job_at(order: &str, place: usize) -> usize {
     match order {
-        "falling" => live - 1 - place,
         // An odd factor makes it go through all jobs once.
         "mixed" => (place * 37 + 11) % JOBS,
         _ => place,
@@ -53,15 +61,15 @@ fn rows(order: &str, live: usize) -> [Row; JOBS] {
             0
         };
         let held = u64::from(place == 0);
-        rows[job_at(order, live, place)] = [place as u64 + 1, declared, held, asked, since];
+        rows[job_at(order, place)] = [place as u64 + 1, declared, held, asked, since];
     }
     rows
 }
 
 /// Nothing where there is no such call: the ask that has to wait is of the third in line.
 fn call(name: &str, live: usize, order: &str) -> Option<Call> {
-    let first = job_at(order, live, 0);
-    let third = || (live > 2).then(|| job_at(order, live, 2));
+    let first = job_at(order, 0);
+    let third = || (live > 2).then(|| job_at(order, 2));
     // An opening needs an idle job.
     let fewer = live.min(JOBS - 1);
     let idle = || {
@@ -74,8 +82,8 @@ fn call(name: &str, live: usize, order: &str) -> Option<Call> {
         "ask" => (2, first, 2, 0, live),
         "ask-wait" => (2, third()?, 4, 0, live),
         "release" => (3, first, 1, 0, live),
-        "complete" => (4, first, 0, 64, live),
-        "report" => (5, job_at(order, live, live - 1), 0, 0, live),
+        "complete" => (COMPLETE, first, 0, 64, live),
+        "report" => (5, job_at(order, live - 1), 0, 0, live),
         "overdue" => (6, 0, 0, 64, live),
         "start" => (7, 0, 0, 0, live),
         _ => return None,
@@ -89,20 +97,59 @@ fn call(name: &str, live: usize, order: &str) -> Option<Call> {
     })
 }
 
-fn case(call: &Call, order: &str) -> Vec<u8> {
+fn table(order: &str, live: usize) -> Table {
+    Table {
+        numbers: [TOKENS as u64, 64, LIMIT, TIME, live as u64],
+        rows: rows(order, live),
+    }
+}
+
+/// The table in the line that a program printed of it.
+fn shown(line: &str) -> Option<Table> {
+    let mut words = line.strip_prefix("table ")?.split(' ');
+    let mut table = table("rising", 0);
+    for number in &mut table.numbers {
+        *number = words.next()?.parse().ok()?;
+    }
+    for word in words {
+        let (job, numbers) = word.split_once(':')?;
+        let row = table.rows.get_mut(job.parse::<usize>().ok()?)?;
+        for (number, text) in row.iter_mut().zip(numbers.split(',')) {
+            *number = text.parse().ok()?;
+        }
+    }
+    Some(table)
+}
+
+fn case(call: &Call, table: &Table) -> Vec<u8> {
+    let [tokens, resources, limit, time, last] = table.numbers;
     let mut bytes = vec![call.number];
     bytes.extend((call.job as u32).to_be_bytes());
     bytes.extend(((TIME + 10) as u32).to_be_bytes());
     bytes.extend(call.set.to_be_bytes());
     bytes.extend(call.length.to_be_bytes());
-    bytes.extend([TOKENS as u8, 64]);
-    bytes.extend((LIMIT as u32).to_be_bytes());
-    bytes.extend(TIME.to_be_bytes());
-    bytes.extend((call.live as u64).to_be_bytes());
-    for number in rows(order, call.live).iter().flatten() {
+    bytes.extend([tokens as u8, resources as u8]);
+    bytes.extend((limit as u32).to_be_bytes());
+    bytes.extend(time.to_be_bytes());
+    bytes.extend(last.to_be_bytes());
+    for number in table.rows.iter().flatten() {
         bytes.extend(number.to_be_bytes());
     }
     bytes
+}
+
+/// A list shorter than 64 is the lowest refusal of a completion, so nothing else of the case matters.
+fn refused(length: u16) -> Option<Vec<u8>> {
+    let mut lines = io::stdin().lock().lines().map_while(Result::ok);
+    let table = lines.find_map(|line| shown(&line))?;
+    let call = Call {
+        number: COMPLETE,
+        job: 0,
+        set: 0,
+        length,
+        live: 0,
+    };
+    Some(case(&call, &table))
 }
 
 fn record(kind: u16, job: usize, tick: u32, set: u64) -> Vec<u8> {
@@ -142,8 +189,10 @@ fn made(words: &[&str]) -> Option<Vec<u8>> {
                 call.number = WRITE_OPEN;
                 call.job = JOBS;
             }
-            Some(case(&call, order).repeat(number(count)?))
+            let table = table(order, call.live);
+            Some(case(&call, &table).repeat(number(count)?))
         }
+        ["refused", length, count] => Some(refused(length.parse().ok()?)?.repeat(number(count)?)),
         ["records", calls, live, count] => Some(records(calls, number(live)?, number(count)?)),
         _ => None,
     }
