@@ -4,7 +4,7 @@ use crate::arbiter::{Report, Row, Said, Table};
 use std::io::{self, Write};
 
 const ROOM: usize = 65536;
-/// The longest text put in at once: a table's line.
+/// The longest line of a table; only a list longer than any of a drive makes the room grow.
 const LONGEST: usize = 8192;
 
 pub struct Out {
