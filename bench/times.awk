@@ -23,7 +23,8 @@ function opening() {
     printf "%s", "gave the same answers. Figures are nanoseconds of processor time. What is measured and what is taken off it took "
     printf "turns, %d rounds of each, and the best round of each counts. A figure is uncertain by what the middle rounds took ", rounds
     printf "%s", "more than the best, and by a step of the clock, a millisecond in a whole round; where it is not above twice that, "
-    print "`-` stands instead. Times vary from run to run and from machine to machine."
+    printf "%s", "`-` stands instead. A ratio to less than ten nanoseconds is not given. Times vary from run to run and from machine "
+    print "to machine."
 }
 
 END {
