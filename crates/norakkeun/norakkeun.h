@@ -1,0 +1,155 @@
+/* The lock arbiter for firmware in C: the calls on a table and the writing of records.
+ *
+ * A table goes into a call by value and the next one comes back; nothing is changed in place, and no call remembers
+ * anything. docs/FIRMWARE.md says what each call promises and what its caller owes. */
+#ifndef NORAKKEUN_H
+#define NORAKKEUN_H
+
+#include <stdbool.h>
+#include <stddef.h>
+#include <stdint.h>
+
+#ifdef __cplusplus
+extern "C" {
+#endif
+
+enum {
+    NORAKKEUN_JOBS = 64,  /* jobs 0 to 63, and so the shortest list that may be lent */
+    NORAKKEUN_RECORD = 14 /* bytes of a record */
+};
+
+/* What an accepted event is told. */
+enum {
+    NORAKKEUN_REFUSED = 0, /* nothing: see the refusal */
+    NORAKKEUN_TOKEN = 1,   /* open: the request has a token */
+    NORAKKEUN_GRANTED = 2, /* ask: the whole set is held */
+    NORAKKEUN_WAIT = 3,    /* open: no token yet; ask: the whole set is asked and comes in one step later */
+    NORAKKEUN_DONE = 4,    /* start, beat, release */
+    NORAKKEUN_WOKE = 5     /* complete: as many jobs as `woken` says stand at the front of the lent list */
+};
+
+/* The refusals. The lowest number that applies to the call is the one given; the calls give 1 to 17. */
+enum {
+    NORAKKEUN_ACCEPTED = 0,
+    NORAKKEUN_BAD_START = 1,        /* tokens, resources or limit out of range */
+    NORAKKEUN_SHORT_LIST = 2,       /* a lent list shorter than 64 */
+    NORAKKEUN_UNSOUND_TABLE = 3,    /* a table that is not sound */
+    NORAKKEUN_NO_SUCH_JOB = 4,      /* a job above 63 */
+    NORAKKEUN_CLOCK_GONE_BACK = 5,  /* a tick 2^31 or more ahead of the clock */
+    NORAKKEUN_TIME_SPENT = 6,       /* true time would pass 2^63-1 */
+    NORAKKEUN_ALREADY_LIVE = 7,     /* the job has a live request */
+    NORAKKEUN_NOT_LIVE = 8,         /* the job has none */
+    NORAKKEUN_NO_TOKEN = 9,         /* its request has no token */
+    NORAKKEUN_STILL_WAITING = 10,   /* an earlier ask still waits */
+    NORAKKEUN_EMPTY_SET = 11,       /* the set is empty */
+    NORAKKEUN_NO_SUCH_RESOURCE = 12, /* the set names a resource that the table does not have */
+    NORAKKEUN_NOT_DECLARED = 13,    /* a member is not declared */
+    NORAKKEUN_ALREADY_HELD = 14,    /* a member is held already */
+    NORAKKEUN_NOT_HELD = 15,        /* a member is not held */
+    NORAKKEUN_TURNS_SPENT = 16,     /* the last turn given is 2^63-1 */
+    NORAKKEUN_WRONG_LENGTH = 17,    /* writing: room under 14 bytes */
+    NORAKKEUN_UNKNOWN_KIND = 18,    /* a replay only: kind 6 or 7 */
+    NORAKKEUN_BIT_SET = 19,         /* a replay only: a bit that must be 0 is 1 */
+    NORAKKEUN_START_OUT_OF_PLACE = 20 /* a replay only: start not first, or first not start */
+};
+
+/* The drive's millisecond counter: 32 bits, 0 after 4294967295. A struct, so that no turn can stand in its place. */
+typedef struct norakkeun_tick {
+    uint32_t count;
+} norakkeun_tick;
+
+/* A place in line, given at opening: 1 for the first. A struct, so that no tick can stand in its place. */
+typedef struct norakkeun_turn {
+    uint64_t place;
+} norakkeun_turn;
+
+/* What is kept of a job's request; turn 0 makes the row idle. In a set, resource a is the bit of value 2^a. */
+typedef struct norakkeun_row {
+    norakkeun_turn turn;
+    uint64_t declared;
+    uint64_t held;
+    uint64_t asked;
+    uint64_t since; /* the true time since which it waits, 0 if it does not */
+} norakkeun_row;
+
+/* The table. Firmware keeps it and may read it; only the calls make the next one. */
+typedef struct norakkeun_table {
+    uint32_t tokens;     /* T, 1 to 64 */
+    uint32_t resources;  /* R, 1 to 64 */
+    uint32_t limit;      /* a wait of so many ms is overdue */
+    uint64_t time;       /* true time in ms, which never wraps */
+    norakkeun_turn last; /* the last turn given */
+    norakkeun_row rows[NORAKKEUN_JOBS];
+} norakkeun_table;
+
+/* What an event is told, how many jobs it woke, and the next table: after a refusal the same as before. */
+typedef struct norakkeun_told {
+    uint32_t refusal;
+    uint32_t said;
+    uint32_t woken;
+    norakkeun_table table;
+} norakkeun_told;
+
+/* What is told of a live request. */
+typedef struct norakkeun_report_of_job {
+    norakkeun_turn turn;
+    bool token;
+    bool waiting;
+    uint32_t ahead;  /* live requests of lower turn */
+    uint32_t in_way; /* those of them whose declared set meets its own */
+} norakkeun_report_of_job;
+
+/* The answer to a report; with a refusal all of the report is 0. */
+typedef struct norakkeun_job_report {
+    uint32_t refusal;
+    norakkeun_report_of_job report;
+} norakkeun_job_report;
+
+/* How many jobs are overdue; with a refusal, 0. */
+typedef struct norakkeun_late_jobs {
+    uint32_t refusal;
+    uint32_t count;
+} norakkeun_late_jobs;
+
+/* The first table: all rows idle, true time is the tick. A refused start gives the all-zero table, which is not sound. */
+norakkeun_told norakkeun_start(uint32_t tokens, uint32_t resources, norakkeun_tick tick, uint32_t limit);
+
+/* Only the clock moves. */
+norakkeun_told norakkeun_beat(norakkeun_table table, norakkeun_tick tick);
+
+/* The job's request becomes live with the next turn and this declared set. Says token or wait. */
+norakkeun_told norakkeun_open(norakkeun_table table, uint32_t job, norakkeun_tick tick, uint64_t set);
+
+/* Says granted, and the whole set is held; or wait, and the whole set is asked. */
+norakkeun_told norakkeun_ask(norakkeun_table table, uint32_t job, norakkeun_tick tick, uint64_t set);
+
+/* The members are no longer held. They stay declared, so nobody is woken. */
+norakkeun_told norakkeun_release(norakkeun_table table, uint32_t job, norakkeun_tick tick, uint64_t set);
+
+/* The row becomes idle. The woken jobs stand at the front of the lent list in order of turn; later entries keep what
+ * they had. */
+norakkeun_told norakkeun_complete(norakkeun_table table, uint32_t job, norakkeun_tick tick, uint8_t *woken,
+                                  size_t length);
+
+/* What is told of the job's request. */
+norakkeun_job_report norakkeun_report(norakkeun_table table, uint32_t job);
+
+/* The jobs whose wait up to this tick is the limit or more stand at the front of the lent list in order of turn; later
+ * entries keep what they had. The clock does not move. */
+norakkeun_late_jobs norakkeun_overdue(norakkeun_table table, norakkeun_tick tick, uint8_t *late, size_t length);
+
+/* Writing what is handed to the arbiter as a record: 14 bytes at the front of the lent room; later bytes keep what they
+ * had. Each gives 0, or 1, 4 or 17 and the room is as before. */
+uint32_t norakkeun_record_start(uint32_t tokens, uint32_t resources, norakkeun_tick tick, uint32_t limit, uint8_t *room,
+                                size_t length);
+uint32_t norakkeun_record_beat(norakkeun_tick tick, uint8_t *room, size_t length);
+uint32_t norakkeun_record_open(uint32_t job, norakkeun_tick tick, uint64_t set, uint8_t *room, size_t length);
+uint32_t norakkeun_record_ask(uint32_t job, norakkeun_tick tick, uint64_t set, uint8_t *room, size_t length);
+uint32_t norakkeun_record_release(uint32_t job, norakkeun_tick tick, uint64_t set, uint8_t *room, size_t length);
+uint32_t norakkeun_record_complete(uint32_t job, norakkeun_tick tick, uint8_t *room, size_t length);
+
+#ifdef __cplusplus
+}
+#endif
+
+#endif
