@@ -135,7 +135,7 @@ static size_t decode_case(const uint8_t *bytes, call *c)
 
 static void must_write_the_same(call c, const uint8_t *bytes)
 {
-    uint8_t room[NORAKKEUN_RECORD];
+    uint8_t room[NORAKKEUN_RECORD] = {0};
 
     if (record(c, room, sizeof room) != NORAKKEUN_ACCEPTED || memcmp(room, bytes, sizeof room) != 0) {
         fprintf(stderr, "against_model: a record was not written as it was read\n");
@@ -161,7 +161,7 @@ static void print_line(unsigned long number, uint32_t refusal, uint32_t said, ui
 /* Prints the line of one record; gives the next table. The table before the start is the all-zero one. */
 static norakkeun_table step(unsigned long number, const uint8_t *bytes, size_t length, norakkeun_table table)
 {
-    uint8_t list[NORAKKEUN_JOBS];
+    uint8_t list[NORAKKEUN_JOBS] = {0};
     norakkeun_told told;
     call c;
     uint32_t refusal = decode(bytes, length, &c);

@@ -42,7 +42,7 @@ static void keep(const uint8_t *record, uint32_t refusal)
 
 static void record_event(message m)
 {
-    uint8_t record[NORAKKEUN_RECORD];
+    uint8_t record[NORAKKEUN_RECORD] = {0};
     uint32_t refusal;
 
     switch (m.kind) {
@@ -89,7 +89,7 @@ static void tell_of(uint32_t job)
 /* Who has waited for the limit or longer. Firmware would raise an alarm for each. */
 static void watch(norakkeun_tick tick)
 {
-    uint8_t late[NORAKKEUN_JOBS];
+    uint8_t late[NORAKKEUN_JOBS] = {0};
     norakkeun_late_jobs told = norakkeun_overdue(table, tick, late, sizeof late);
     uint32_t i;
 
@@ -106,7 +106,7 @@ static void watch(norakkeun_tick tick)
 
 static void power_on(norakkeun_tick tick)
 {
-    uint8_t record[NORAKKEUN_RECORD];
+    uint8_t record[NORAKKEUN_RECORD] = {0};
     norakkeun_told told;
 
     keep(record, norakkeun_record_start(TOKENS, RESOURCES, tick, LIMIT_MS, record, sizeof record));
@@ -117,7 +117,7 @@ static void power_on(norakkeun_tick tick)
 
 static void take(message m)
 {
-    uint8_t woken[NORAKKEUN_JOBS];
+    uint8_t woken[NORAKKEUN_JOBS] = {0};
     norakkeun_told told;
 
     record_event(m);

@@ -1,0 +1,349 @@
+//! The night of day fifty as firmware in Rust hands it to the arbiter: `example.c` again, behind a thin safe wrapper.
+//!
+//! ```text
+//! example RECORDING >listing 2>answers
+//! ```
+//!
+//! Each message is recorded before it is handed over, refused ones too: the replay refuses them alike. Standard output
+//! is what `bin/replay` prints of RECORDING, and standard error has the answers to the questions.
+
+use std::fs::File;
+use std::io::{self, Write};
+
+/// The declarations of `norakkeun.h` in Rust.
+mod raw {
+    #[repr(C)]
+    #[derive(Clone, Copy)]
+    pub struct Tick(pub u32);
+
+    #[repr(C)]
+    #[derive(Clone, Copy)]
+    pub struct Turn(pub u64);
+
+    #[repr(C)]
+    #[derive(Clone, Copy)]
+    pub struct Row {
+        pub turn: Turn,
+        pub declared: u64,
+        pub held: u64,
+        pub asked: u64,
+        pub since: u64,
+    }
+
+    #[repr(C)]
+    #[derive(Clone, Copy)]
+    pub struct Table {
+        pub tokens: u32,
+        pub resources: u32,
+        pub limit: u32,
+        pub time: u64,
+        pub last: Turn,
+        pub rows: [Row; super::JOBS],
+    }
+
+    #[repr(C)]
+    pub struct Told {
+        pub refusal: u32,
+        pub said: u32,
+        pub woken: u32,
+        pub table: Table,
+    }
+
+    #[repr(C)]
+    #[derive(Clone, Copy)]
+    pub struct Report {
+        pub turn: Turn,
+        pub token: bool,
+        pub waiting: bool,
+        pub ahead: u32,
+        pub in_way: u32,
+    }
+
+    #[repr(C)]
+    pub struct JobReport {
+        pub refusal: u32,
+        pub report: Report,
+    }
+
+    #[repr(C)]
+    pub struct LateJobs {
+        pub refusal: u32,
+        pub count: u32,
+    }
+
+    #[rustfmt::skip]
+    #[link(name = "norakkeun", kind = "static")]
+    extern "C" {
+        pub fn norakkeun_start(tokens: u32, resources: u32, tick: Tick, limit: u32) -> Told;
+        pub fn norakkeun_beat(table: Table, tick: Tick) -> Told;
+        pub fn norakkeun_open(table: Table, job: u32, tick: Tick, set: u64) -> Told;
+        pub fn norakkeun_ask(table: Table, job: u32, tick: Tick, set: u64) -> Told;
+        pub fn norakkeun_release(table: Table, job: u32, tick: Tick, set: u64) -> Told;
+        pub fn norakkeun_complete(table: Table, job: u32, tick: Tick, woken: *mut u8, length: usize) -> Told;
+        pub fn norakkeun_report(table: Table, job: u32) -> JobReport;
+        pub fn norakkeun_overdue(table: Table, tick: Tick, late: *mut u8, length: usize) -> LateJobs;
+        pub fn norakkeun_record_start(
+            tokens: u32, resources: u32, tick: Tick, limit: u32, room: *mut u8, length: usize,
+        ) -> u32;
+        pub fn norakkeun_record_beat(tick: Tick, room: *mut u8, length: usize) -> u32;
+        pub fn norakkeun_record_open(job: u32, tick: Tick, set: u64, room: *mut u8, length: usize) -> u32;
+        pub fn norakkeun_record_ask(job: u32, tick: Tick, set: u64, room: *mut u8, length: usize) -> u32;
+        pub fn norakkeun_record_release(job: u32, tick: Tick, set: u64, room: *mut u8, length: usize) -> u32;
+        pub fn norakkeun_record_complete(job: u32, tick: Tick, room: *mut u8, length: usize) -> u32;
+    }
+}
+
+use raw::{Report, Table, Tick, Told};
+
+const JOBS: usize = 64;
+const RECORD: usize = 14;
+
+const TOKENS: u32 = 2;
+const RESOURCES: u32 = 3;
+const LIMIT_MS: u32 = 50;
+
+const CURRENT_CONTROL: u32 = 3;
+const BRAKE: u32 = 7;
+const DISPLAY: u32 = 12;
+const TELEMETRY: u32 = 20;
+
+const ENCODER_BUS: u64 = 1;
+const GATE_DRIVER: u64 = 2;
+
+/// Jobs that a call has listed, in order of turn.
+struct Jobs {
+    list: [u8; JOBS],
+    count: usize,
+}
+
+impl Jobs {
+    fn listed(&self) -> &[u8] {
+        &self.list[..self.count]
+    }
+}
+
+/// What an accepted event is told.
+enum Said {
+    Token,
+    Granted,
+    Wait,
+    Done,
+    Woke(Jobs),
+}
+
+/// An event, as a job or a timer says it.
+#[derive(Clone, Copy)]
+enum Event {
+    Beat(Tick),
+    Open(u32, Tick, u64),
+    Ask(u32, Tick, u64),
+    Release(u32, Tick, u64),
+    Complete(u32, Tick),
+}
+
+/// The value where the refusal is 0.
+fn unless_refused<T>(refusal: u32, value: T) -> Result<T, u32> {
+    if refusal == 0 {
+        Ok(value)
+    } else {
+        Err(refusal)
+    }
+}
+
+/// The record of a start, or the refusal.
+fn record_start(tick: Tick) -> Result<[u8; RECORD], u32> {
+    let mut room = [0; RECORD];
+    let at = room.as_mut_ptr();
+    // SAFETY: the room is lent for the call alone, with its own length.
+    let refusal =
+        unsafe { raw::norakkeun_record_start(TOKENS, RESOURCES, tick, LIMIT_MS, at, RECORD) };
+    unless_refused(refusal, room)
+}
+
+/// The record of an event, or the refusal.
+fn record(event: Event) -> Result<[u8; RECORD], u32> {
+    let mut room = [0; RECORD];
+    let at = room.as_mut_ptr();
+    // SAFETY: the room is lent for the call alone, with its own length.
+    let refusal = unsafe {
+        match event {
+            Event::Beat(tick) => raw::norakkeun_record_beat(tick, at, RECORD),
+            Event::Open(job, tick, set) => raw::norakkeun_record_open(job, tick, set, at, RECORD),
+            Event::Ask(job, tick, set) => raw::norakkeun_record_ask(job, tick, set, at, RECORD),
+            Event::Release(job, tick, set) => {
+                raw::norakkeun_record_release(job, tick, set, at, RECORD)
+            }
+            Event::Complete(job, tick) => raw::norakkeun_record_complete(job, tick, at, RECORD),
+        }
+    };
+    unless_refused(refusal, room)
+}
+
+/// The only state that the arbiter has.
+struct Arbiter {
+    table: Table,
+}
+
+impl Arbiter {
+    fn start(tick: Tick) -> Result<Arbiter, u32> {
+        // SAFETY: nothing is lent, and any numbers may be handed in.
+        let told = unsafe { raw::norakkeun_start(TOKENS, RESOURCES, tick, LIMIT_MS) };
+        unless_refused(told.refusal, Arbiter { table: told.table })
+    }
+
+    /// The answer; after a refusal the table is as it was.
+    fn take(&mut self, event: Event) -> Result<Said, u32> {
+        let table = self.table;
+        let mut list = [0; JOBS];
+        // SAFETY: the list is lent for the call alone, with its own length; any table may be handed in.
+        let told = unsafe {
+            match event {
+                Event::Beat(tick) => raw::norakkeun_beat(table, tick),
+                Event::Open(job, tick, set) => raw::norakkeun_open(table, job, tick, set),
+                Event::Ask(job, tick, set) => raw::norakkeun_ask(table, job, tick, set),
+                Event::Release(job, tick, set) => raw::norakkeun_release(table, job, tick, set),
+                Event::Complete(job, tick) => {
+                    raw::norakkeun_complete(table, job, tick, list.as_mut_ptr(), JOBS)
+                }
+            }
+        };
+        self.table = told.table;
+        said(&told, list)
+    }
+
+    fn report(&self, job: u32) -> Result<Report, u32> {
+        // SAFETY: nothing is lent, and any table may be handed in.
+        let told = unsafe { raw::norakkeun_report(self.table, job) };
+        unless_refused(told.refusal, told.report)
+    }
+
+    fn overdue(&self, tick: Tick) -> Result<Jobs, u32> {
+        let mut list = [0; JOBS];
+        // SAFETY: the list is lent for the call alone, with its own length; any table may be handed in.
+        let told = unsafe { raw::norakkeun_overdue(self.table, tick, list.as_mut_ptr(), JOBS) };
+        let count = told.count as usize;
+        unless_refused(told.refusal, Jobs { list, count })
+    }
+}
+
+fn said(told: &Told, list: [u8; JOBS]) -> Result<Said, u32> {
+    match told.said {
+        0 => Err(told.refusal),
+        1 => Ok(Said::Token),
+        2 => Ok(Said::Granted),
+        3 => Ok(Said::Wait),
+        4 => Ok(Said::Done),
+        _ => {
+            let count = told.woken as usize;
+            Ok(Said::Woke(Jobs { list, count }))
+        }
+    }
+}
+
+/// What comes in: events, which change the table, and questions, which do not.
+enum Message {
+    Event(Event),
+    Report(u32),
+    Overdue(Tick),
+}
+
+/// What came in that night. A drive would take it from a queue.
+#[rustfmt::skip]
+fn night() -> [Message; 22] {
+    use Event::{Ask, Beat, Complete, Open, Release};
+    use Message::{Event as E, Overdue, Report};
+    [
+        E(Beat(Tick(2147483647))), // after 24.8 days
+        E(Beat(Tick(4294967000))), // on day fifty, 296 ms before the wrap
+        E(Open(CURRENT_CONTROL, Tick(4294967230), GATE_DRIVER)),
+        E(Ask(CURRENT_CONTROL, Tick(4294967231), GATE_DRIVER)),
+        E(Open(BRAKE, Tick(4294967240), ENCODER_BUS | GATE_DRIVER)),
+        E(Ask(BRAKE, Tick(4294967240), ENCODER_BUS | GATE_DRIVER)),
+        Report(BRAKE),
+        Overdue(Tick(4294967289)), // 49 ms: nobody
+        Overdue(Tick(4294967290)), // 50 ms: the brake
+        E(Open(DISPLAY, Tick(4), ENCODER_BUS)), // after the wrap
+        E(Open(TELEMETRY, Tick(5), GATE_DRIVER)),
+        E(Ask(DISPLAY, Tick(6), ENCODER_BUS)), // refused: no token
+        Overdue(Tick(6)), // the first test after the wrap: still the brake
+        Report(BRAKE),
+        E(Complete(CURRENT_CONTROL, Tick(20))),
+        E(Ask(DISPLAY, Tick(21), ENCODER_BUS)),
+        E(Release(BRAKE, Tick(40), ENCODER_BUS)),
+        E(Complete(BRAKE, Tick(60))),
+        E(Ask(TELEMETRY, Tick(61), GATE_DRIVER)),
+        E(Beat(Tick(4294967295))), // refused: a stale tick
+        E(Complete(DISPLAY, Tick(70))),
+        E(Complete(TELEMETRY, Tick(71))),
+    ]
+}
+
+fn words(jobs: &Jobs) -> String {
+    jobs.listed().iter().map(|job| format!(" {job}")).collect()
+}
+
+/// What the replay prints of an answer.
+fn listed(answer: &Result<Said, u32>) -> String {
+    match answer {
+        Err(refusal) => format!("no {refusal}"),
+        Ok(Said::Wait) => "wait".to_string(),
+        Ok(Said::Token | Said::Granted | Said::Done) => "ok".to_string(),
+        Ok(Said::Woke(woken)) => format!("ok{}", words(woken)),
+    }
+}
+
+fn reported(answer: Result<Report, u32>) -> String {
+    match answer {
+        Err(refusal) => format!("no {refusal}"),
+        Ok(r) => {
+            let (token, waiting) = (u8::from(r.token), u8::from(r.waiting));
+            format!(
+                "report {} {token} {waiting} {} {}",
+                r.turn.0, r.ahead, r.in_way
+            )
+        }
+    }
+}
+
+fn late(answer: Result<Jobs, u32>) -> String {
+    match answer {
+        Err(refusal) => format!("no {refusal}"),
+        Ok(jobs) => format!("overdue {}{}", jobs.count, words(&jobs)),
+    }
+}
+
+/// Only a job above 63, or a start whose numbers do not fit, has no record; these change no table.
+fn keep(recording: &mut File, record: Result<[u8; RECORD], u32>) -> io::Result<()> {
+    record.map_or(Ok(()), |bytes| recording.write_all(&bytes))
+}
+
+fn run(recording: &mut File) -> io::Result<()> {
+    keep(recording, record_start(Tick(0)))?;
+    let mut arbiter = Arbiter::start(Tick(0)).expect("the numbers of the start are in range");
+    let mut number = 1;
+    println!("{number} ok");
+    for message in night() {
+        match message {
+            Message::Event(event) => {
+                keep(recording, record(event))?;
+                number += 1;
+                println!("{number} {}", listed(&arbiter.take(event)));
+            }
+            Message::Report(job) => eprintln!("{}", reported(arbiter.report(job))),
+            Message::Overdue(tick) => eprintln!("{}", late(arbiter.overdue(tick))),
+        }
+    }
+    let live = arbiter
+        .table
+        .rows
+        .iter()
+        .filter(|row| row.turn.0 != 0)
+        .count();
+    println!("end {live} {}", live.min(arbiter.table.tokens as usize));
+    Ok(())
+}
+
+fn main() -> io::Result<()> {
+    let path = std::env::args().nth(1).expect("usage: example RECORDING");
+    run(&mut File::create(path)?)
+}
