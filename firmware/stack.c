@@ -2,7 +2,8 @@
  *
  * Each call is made on a stack of its own that was filled with a pattern before. What is printed is how far down the
  * pattern is gone: from the frame of a function that makes the one call, with its copy of the table and its answer, to
- * the lowest byte that was written. All 64 rows are live. */
+ * the lowest byte that was written. All 64 rows are live. Each call was made before, so that the C library's functions
+ * are found already. */
 #define _XOPEN_SOURCE 700
 #include <stdint.h>
 #include <stdio.h>
@@ -71,8 +72,10 @@ static size_t depth(void (*function)(void))
 
 static void measure(const char *name, void (*function)(void))
 {
-    size_t bytes = depth(function) - depth(nothing);
+    size_t bytes;
 
+    function();
+    bytes = depth(function) - depth(nothing);
     if (refusal != NORAKKEUN_ACCEPTED) {
         fprintf(stderr, "stack: %s was refused as %u\n", name, (unsigned)refusal);
         exit(1);
