@@ -2,7 +2,7 @@
  *
  *     example RECORDING >listing 2>answers
  *
- * Each message is recorded before it is handed over, refused ones too: the replay refuses them alike. Standard output is
+ * Each event is recorded before it is handed over, refused ones too: the replay refuses them alike. Standard output is
  * what bin/replay prints of RECORDING, and standard error has the answers to the questions. */
 #include <inttypes.h>
 #include <stdio.h>
