@@ -1,5 +1,5 @@
 // What firmware in C or Rust links: the calls on a table and the writing of records, under C's names and in C's layout.
-// `norakkeun.h` beside this folder declares them once more; nothing but the example's run holds the two together.
+// `norakkeun.h` beside this folder declares them once more; that the two agree is shown by running, not proved.
 mod calls;
 mod records;
 mod told;
