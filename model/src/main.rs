@@ -11,8 +11,9 @@
 //! model tally-recordings FILE...
 //! ```
 //!
-//! `make-cases each` makes cases until the tally has met all so often. Both tallies exit with 1 if something was never met. Wrong arguments, and
-//! input or output that fails, exit with 2.
+//! `make-cases each` makes cases until the tally has met all so often. Both tallies
+//! exit with 1 if something was never met. Wrong arguments, and input or output that
+//! fails, exit with 2.
 
 mod answer;
 mod arbiter;

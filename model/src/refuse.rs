@@ -43,7 +43,7 @@ fn applies(number: u8, case: &Case, arbiter: &Arbiter) -> bool {
         1 => start_out_of_range(case),
         2 => usize::from(case.room) < JOBS,
         3 => !sound::is_sound(table),
-        4 => case.job > 63,
+        4 => case.job >= JOBS as u32,
         5 => clock::gone_back(table.time, case.tick),
         6 => clock::passes_top(table.time, case.tick),
         7..=10 => request_refuses(number, case, arbiter),
