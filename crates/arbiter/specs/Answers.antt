@@ -15,6 +15,7 @@ pub data Said : Type 0 where
   token granted wait done : Said
   woke : ℕ → Said
 
+-- what the answer to an event or a start says
 abbrev pub saidOf : Answer → Outcome Said
 saidOf (Answers.No r) = refused (numberOf r)
 saidOf Answers.Token = fine token
@@ -23,10 +24,12 @@ saidOf Answers.Wait = fine wait
 saidOf Answers.Done = fine done
 saidOf (Answers.Woke n) = fine (woke n)
 
+-- what the answer to a report says
 abbrev pub reportOf : Reported → Outcome Report
 reportOf (Reports.No r) = refused (numberOf r)
 reportOf (Reports.Is x) = fine x
 
+-- what the answer to the question who is overdue says: how many are
 abbrev pub lateOf : Late → Outcome ℕ
 lateOf (Lates.No r) = refused (numberOf r)
 lateOf (Lates.Count n) = fine n

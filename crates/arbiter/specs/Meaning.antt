@@ -130,6 +130,7 @@ abbrev pub freshTable : ℕ → ℕ → ℕ → ℕ → Table
 freshTable T R tick limit =
     record { tokens = T; resources = R; limit = limit; time = tick; last = record { 0 = 0 }; rows = replicate jobs idle }
 
+-- the answer to a start: refused as 1, or simply done
 unfoldable pub startAnswer : ℕ → ℕ → ℕ → Outcome Said
 startAnswer T R limit = outcome (startCases T R limit) Answers.done
 
@@ -150,6 +151,7 @@ reported t r =
       «in_way» = inWay (t .rows) (r .turn .0) (r .declared);
     }
 
+-- the answer to a report of job j
 unfoldable pub report : Table → ℕ → Outcome Report
 report t j = outcome (reportCases t j) (reported t (rowOf (t .rows) j))
 
@@ -165,9 +167,11 @@ lateAt t time = keep (lateJob (t .tokens) (t .limit) time (t .rows)) (line (t .r
 abbrev pub late : Table → ℕ → List ℕ
 late t tick = lateAt t (timeAt t tick)
 
+-- the answer to the question who is overdue at a tick, with a lent list of n entries: their number
 unfoldable pub overdue : ℕ → Table → ℕ → Outcome ℕ
 overdue n t tick = outcome (overdueCases n t tick) (length (late t tick))
 
+-- the lent list after that question
 unfoldable pub overdueList : Table → ℕ → List ℕ → List ℕ
 overdueList t tick out = leaves (overdueCases (length out) t tick) out (over (late t tick) out)
 

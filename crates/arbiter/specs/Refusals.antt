@@ -19,6 +19,7 @@ use Rattle.arbiter.specs.declared.table.Table.{Table}
 abbrev pub shortList : ℕ → Case
 shortList n = when 2 (ltb n jobs)
 
+-- the table is not sound
 abbrev pub unsoundTable : Table → Case
 unsoundTable t = when 3 (not (sound t))
 
@@ -79,10 +80,11 @@ cases n t (Complete j tick) = shortList n ∷ actCases t j (tick .0)
 abbrev pub startCases : ℕ → ℕ → ℕ → List Case
 startCases T R limit = when 1 (not (holds (ranges T R limit))) ∷ []
 
--- the cases of the two questions
+-- the cases of a report
 abbrev pub reportCases : Table → ℕ → List Case
 reportCases t j = unsoundTable t ∷ noSuchJob j ∷ when 8 (not (live (rowOf (t .rows) j))) ∷ []
 
+-- the cases of the question who is overdue, with a lent list of n entries
 abbrev pub overdueCases : ℕ → Table → ℕ → List Case
 overdueCases n t tick = shortList n ∷ tickCases t tick
 

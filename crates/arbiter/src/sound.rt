@@ -30,12 +30,14 @@ struct Bounds {
     last: Turn,
 }
 
+// Whether both hold. A call and no `&&`, so that a function that joins many tests has no branches to be proved apart.
 fn both(a: bool, b: bool) -> bool
     ensures { λ r. ⌜ r ≡ (a && b) ⌝ }
 {
     a && b
 }
 
+// Whether one of the two holds; a call for the same reason.
 fn either(a: bool, b: bool) -> bool
     ensures { λ r. ⌜ r ≡ (a || b) ⌝ }
 {

@@ -1,4 +1,5 @@
-// Why a call is refused: each test of document 01's refusals written once, in the order of their numbers.
+// Why an event is refused: the tests of document 01's refusals, put together from parts. Each part tests in the order of
+// the numbers, and a later part is asked only where the earlier ones accept.
 ghost use Prim.Native.Nat.{_-_, _^_, _<_};
 ghost use mathlib.Core.Path.{_≡_};
 ghost use lib.Dec.{eqb};

@@ -4,7 +4,7 @@ use event::Moment;
 use event::Tick;
 use libc::STDOUT_FILENO;
 
-// Two of these widths start inside a byte and end inside another.
+// Three of these fields start inside a byte and end inside another.
 const WIDTHS: [u32; 8] = [4, 6, 6, 32, 63, 63, 7, 3];
 
 fn print(n: u64) {

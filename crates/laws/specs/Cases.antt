@@ -64,6 +64,7 @@ leaves cs old new = keepUnless (first cs) old new
 
 -- ---- The first, step by step: what a chain of tests has found
 
+-- the first that applies is numbered so: there is none, it is this one, or this one is passed over
 pub data First : List Case → ℕ → Type 0 where
   none : First [] 0
   this : {n : ℕ} {b : Bool} {cs : List Case} → b ≡ true → First (when n b ∷ cs) n

@@ -23,6 +23,7 @@ use Rattle.promises.specs.DemandHolds.{demand3}
 use Rattle.promises.specs.History.{leavings, lists}
 use Rattle.promises.specs.Sound.{rowIn}
 
+-- the tick of that number
 abbrev pub at : ℕ → Tick
 at t = record { 0 = t }
 
@@ -128,6 +129,7 @@ unfoldable pub answers : Table → List Event → List (Outcome Said)
 answers t [] = []
 answers t (e ∷ es) = answer jobs t e ∷ answers (next jobs t e) es
 
+-- what the history shows
 pub record Shown : Type 0 where
   -- it is opened behind five; refused events count for nothing, and the second completion brings the token
   pub behind : this p ≡ 5

@@ -70,6 +70,7 @@ abbrev six : Bool → Bool → ℕ → ℕ → Outcome Report
 six token waiting ahead way =
     fine (record { turn = record { 0 = 6 }; token = token; waiting = waiting; ahead = ahead; «in_way» = way })
 
+-- what is reported, listed and held along it
 pub record Figures : Type 0 where
   -- two completions are due; a refused one does not count, and after one there is no token
   pub refused-one : reports (leads all-open (Complete 5 (at 1))) 6 ≡ six false true 5 2

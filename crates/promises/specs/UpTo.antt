@@ -1,6 +1,6 @@
--- What requests of turns up to n live through depends on the rows of turns up to n, and on no others: `up-to-decides`
--- and `up-to-tells` (UpToHolds) say `SameUpTo` of any event and `ToldAlike` on two sound tables that `Agree`, each with a row for each job, the last turn of
--- each being n or higher.
+-- What requests of turns up to n live through depends on the rows of turns up to n, and on no others. `up-to-decides`
+-- and `up-to-tells` (UpToHolds) say so, as `SameUpTo` of any event and as `ToldAlike`, of two sound tables that `Agree`;
+-- each has a row for each job and has given turn n.
 use Prim.Native.Nat.{ℕ, _+_}
 use mathlib.Core.Bool.{Bool, true, false}
 use mathlib.Core.List.{List, map}

@@ -24,6 +24,7 @@ use Rattle.rows.specs.Sweep.{settled, woken}
 pub data Session : Type 0 where
   P1 P2 P3 P4 P5 P6 P7 P8 P9 P10 P11 P12 : Session
 
+-- the tick of that number
 abbrev at : ℕ → Tick
 at n = record { 0 = n }
 
