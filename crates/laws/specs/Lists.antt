@@ -1,6 +1,6 @@
 -- How many elements of a list pass a test, whether any does, whether all do; and how these change when one element does.
 use Prim.Native.Nat.{ℕ, zero, suc, _+_, _<_, _≤_}
-use mathlib.Core.Bool.{Bool, true, false, not, _&&_, _||_, or-comm, or-assoc, and-comm, and-assoc}
+use mathlib.Core.Bool.{Bool, true, false, _&&_, _||_, or-comm, or-assoc, and-comm, and-assoc}
 use mathlib.Core.List.{List, [], _∷_, _++_, map}
 use mathlib.Core.Path.{_≡_, refl, sym, ap, _∙_}
 use native.Mathlib.Nat.{not-suc-le-zero, le-of-suc-le-suc, add-assoc, add-comm, add-zero, zero-add}
@@ -9,7 +9,7 @@ use native.Mathlib.Omega.{arith}
 use borrow.Author.Count.{below-more}
 use borrow.Author.Tests.{lt-ltb}
 use lib.Dec.{ltb}
-use Rattle.laws.specs.Bools.{bit, bit-le, and-left, and-right}
+use Rattle.laws.specs.Bools.{bit, bit-le}
 use lib.ListN.{length, getD, set, drop, drop-of-length-le}
 use lib.Seq.{drop-cons, getD-set-other, getD-set-same}
 
@@ -73,11 +73,6 @@ module _ {A B : Type 0} (f : B → Bool) (g : A → B) where
   count-map [] = refl
   count-map (x ∷ l) = ap (λ (n : ℕ). bit (f (g x)) + n) (count-map l)
 
-  pub any-map : (l : List A) → any f (map g l) ≡ any (λ x. f (g x)) l
-  unfolding any
-  any-map [] = refl
-  any-map (x ∷ l) = ap (λ (b : Bool). f (g x) || b) (any-map l)
-
   pub all-map : (l : List A) → all f (map g l) ≡ all (λ x. f (g x)) l
   unfolding all
   all-map [] = refl
@@ -96,26 +91,10 @@ module _ {A : Type 0} (f : A → Bool) where
       go true ih = sym (lt-ltb 0 (1 + count f l) (omega arith))
       go false ih = rw zero-add ih
 
-  -- all pass exactly when none fails
-  pub all-any : (l : List A) → all f l ≡ not (any (λ x. not (f x)) l)
-  unfolding any all
-  all-any [] = refl
-  all-any (x ∷ l) = go (f x) (all-any l)
-    where
-      go : (b : Bool) → all f l ≡ not (any (λ x. not (f x)) l) → (b && all f l) ≡ not (not b || any (λ x. not (f x)) l)
-      go true ih = ih
-      go false ih = refl
-
   pub count-le : (l : List A) → count f l ≤ length l
   unfolding count
   count-le [] = omega arith
   count-le (x ∷ l) = omega (arith, bit-le (f x), count-le l)
-
-  pub all-at : (l : List A) (i : ℕ) (d : A) → all f l ≡ true → i < length l → f (getD l i d) ≡ true
-  unfolding all
-  all-at [] i d e h = absurd (not-suc-le-zero h)
-  all-at (x ∷ l) zero d e h = and-left (f x) (all f l) e
-  all-at (x ∷ l) (suc i) d e h = all-at l i d (and-right (f x) (all f l) e) (le-of-suc-le-suc h)
 
 -- ---- From a place on: the element there, and the rest
 

@@ -1,13 +1,13 @@
 -- Sets of resources as numbers: resource a is the bit of value 2 ^ a. Every law holds for numbers of any size, so for every width at once.
 use Prim.Native.Nat.{ℕ, zero, suc, _+_, _-_, _/_, _%_, _^_, _≤_, _<_}
-use mathlib.Core.Bool.{Bool, true, false, not, xor, _&&_, _||_, true≢false, and-eq-true-iff, and-true, and-false, or-false, and-self, or-self, and-assoc, or-assoc, and-comm, or-comm, not-and-self, not-or-self, and-or-distrib-left, and-self-left}
+use mathlib.Core.Bool.{Bool, true, false, not, xor, _&&_, _||_, true≢false, and-eq-true-iff, or-false, or-self, and-comm, or-comm, and-or-distrib-left, and-self-left}
 use mathlib.Core.Logic.{_↔_}
 use mathlib.Core.Path.{_≡_, refl, sym, ap, _∙_}
 use native.Mathlib.Nat.{mod-lt, zero-div, div-eq-of-lt, le-div-iff-mul-le, le-add-right, add-sub-of-le, lt-of-lt-of-le}
 use native.Mathlib.Omega.{arith}
 use borrow.Author.Tests.{eqb-true, eqb-false, ltb-true, ltb-false, eq-eqb, lt-ltb, ne-eqb, not-true}
 use lib.Arith.{bin-ind, le-zero}
-use lib.Bits.{bitAnd, bitOr, bitXor, and-shr, or-shr, xor-shr, and-mod, or-mod, xor-mod, and-le-l, and-le-r, or-lt, or-add-and, xor-add-and}
+use lib.Bits.{bitAnd, bitOr, bitXor, and-shr, or-shr, xor-shr, and-mod, or-mod, xor-mod, and-le-l, and-le-r, or-add-and, xor-add-and}
 use lib.Dec.{eqb, ltb}
 use lib.Pow.{pow-pos, pow-mono, shr-shr}
 use Rattle.laws.specs.Reads.{Reads, reading}
@@ -214,9 +214,6 @@ pub ruleset members = (member-meet, member-union, member-without, member-empty)
 pub union-comm : (s t : ℕ) → union s t ≡ union t s
 union-comm s t = ext (λ a. simp members (or-comm (member s a) (member t a)))
 
-pub union-assoc : (s t u : ℕ) → union (union s t) u ≡ union s (union t u)
-union-assoc s t u = ext (λ a. simp members (or-assoc (member s a) (member t a) (member u a)))
-
 pub union-self : (s : ℕ) → union s s ≡ s
 union-self s = ext (λ a. simp members (or-self (member s a)))
 
@@ -226,24 +223,8 @@ union-empty s = ext (λ a. simp (members, or-false))
 pub meet-comm : (s t : ℕ) → meet s t ≡ meet t s
 meet-comm s t = ext (λ a. simp members (and-comm (member s a) (member t a)))
 
-pub meet-assoc : (s t u : ℕ) → meet (meet s t) u ≡ meet s (meet t u)
-meet-assoc s t u = ext (λ a. simp members (and-assoc (member s a) (member t a) (member u a)))
-
-pub meet-self : (s : ℕ) → meet s s ≡ s
-meet-self s = ext (λ a. simp members (and-self (member s a)))
-
 pub meet-union : (s t u : ℕ) → meet s (union t u) ≡ union (meet s t) (meet s u)
 meet-union s t u = ext (λ a. simp members (and-or-distrib-left (member s a) (member t a) (member u a)))
-
-pub meet-without : (s t : ℕ) → meet (without s t) t ≡ 0
-meet-without s t = ext (λ a. simp (members, and-assoc, not-and-self, and-false))
-
-pub union-without-meet : (s t : ℕ) → union (without s t) (meet s t) ≡ s
-union-without-meet s t = ext (λ a. simp (members, ← and-or-distrib-left, not-or-self, and-true))
-
-pub union-without : (s t : ℕ) → inside t s ≡ true → union (without s t) t ≡ s
-unfolding inside
-union-without s t h = rw (meet-comm s t ∙ eqb-true (meet t s) t h) at (union-without-meet s t)
 
 pub meets-comm : (s t : ℕ) → meets s t ≡ meets t s
 unfolding meets
@@ -260,10 +241,6 @@ some-union (suc s) t =
 pub meets-union : (s t u : ℕ) → meets s (union t u) ≡ (meets s t || meets s u)
 unfolding meets
 meets-union s t u = rw meet-union (some-union (meet s t) (meet s u))
-
-pub inside-refl : (s : ℕ) → inside s s ≡ true
-unfolding inside
-inside-refl s = eq-eqb (meet s s) s (meet-self s)
 
 pub inside-trans : (s t u : ℕ) → inside s t ≡ true → inside t u ≡ true → inside s u ≡ true
 inside-trans s t u p q = inside-reads s u .holds .1 (λ a m. inside-reads t u .holds .0 q a (inside-reads s t .holds .0 p a m))
@@ -285,11 +262,6 @@ without-inside s t =
     inside-reads (without s t) s .holds .1
     (λ a m. and-eq-true-iff (member s a) (not (member t a)) .0 (rw member-without at m) .0)
 
-pub meets-mono : (s t u : ℕ) → inside s t ≡ true → meets s u ≡ true → meets t u ≡ true
-meets-mono s t u p q =
-    let r = meets-reads s u .holds .0 q in
-    meets-reads t u .holds .1 (r .0, inside-reads s t .holds .0 p (r .0) (r .1), r .2)
-
 -- the set without members lies inside any, and meets none
 pub inside-empty : (s : ℕ) → inside 0 s ≡ true
 inside-empty s = inside-reads 0 s .holds .1 (λ a m. absurd (true≢false (sym m ∙ member-empty a)))
@@ -301,14 +273,7 @@ meets-empty s = meets-reads s 0 .fails .1 (λ a m. member-empty a)
 pub meets-inside : (s t u : ℕ) → inside s t ≡ true → meets t u ≡ false → meets s u ≡ false
 meets-inside s t u p q = meets-reads s u .fails .1 (λ a m. meets-reads t u .fails .0 q a (inside-reads s t .holds .0 p a m))
 
-pub below-mono : (s t r : ℕ) → inside s t ≡ true → below t r ≡ true → below s r ≡ true
-below-mono s t r p q = below-reads s r .holds .1 (λ a m. below-reads t r .holds .0 q a (inside-reads s t .holds .0 p a m))
-
 -- ---- Range
-
-pub union-lt : (k s t : ℕ) → s < 2 ^ k → t < 2 ^ k → union s t < 2 ^ k
-unfolding union
-union-lt = or-lt
 
 pub meet-le : (s t : ℕ) → meet s t ≤ s
 unfolding meet
