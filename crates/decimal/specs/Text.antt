@@ -3,7 +3,7 @@ use Prim.Native.Nat.{ℕ, zero, suc, _+_, _-_, _*_, _/_, _%_, _^_, _<_, _≤_}
 use mathlib.Core.Bool.{true, false}
 use mathlib.Core.List.{List, [], _∷_, _++_, map, append-nil}
 use mathlib.Core.Logic.{_≢_}
-use mathlib.Core.Path.{_≡_, refl, sym, ap, _∙_}
+use mathlib.Core.Path.{_≡_, refl, sym, _∙_}
 use native.Mathlib.Omega.{arith}
 use native.Mathlib.Decide.{decLt}
 use native.Mathlib.Nat.{not-suc-le-zero, le-refl, pow-suc, mul-assoc}
@@ -125,9 +125,6 @@ unfolding value
 value-text =
     by-digit _ (λ n h. rw (text-small n h) (omega arith))
     (λ n h rest. rw (text-large n h, value-last (text (n / 10)) (48 + n % 10), rest) (omega arith))
-
-pub text-injective : (m n : ℕ) → text m ≡ text n → m ≡ n
-text-injective m n e = sym (value-text m) ∙ ap value e ∙ value-text n
 
 digits-last : (s : List ℕ) (b : ℕ) → Digits s → Digit b → Digits (s ++ b ∷ [])
 digits-last [] b d db zero h = db
