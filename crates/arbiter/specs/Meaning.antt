@@ -39,7 +39,7 @@ openedRow t time s =
       since = cond (token (t .tokens) (t .rows) (t .last .0 + 1)) 0 time;
     }
 
--- Q3: the whole set is held if no live row of lower turn declares any member, else all of it is asked, from this time on
+-- Q3: where no live row of lower turn declares a member all of the set is held, else all of it is asked, from this time on
 abbrev pub askedRow : Table → Row → ℕ → ℕ → Row
 askedRow t r time s =
     cond (blocked (t .rows) (r .turn .0) s)

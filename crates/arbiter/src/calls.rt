@@ -1,4 +1,4 @@
-// The calls: start, the five events and the two questions. An event takes the table and hands back the next one.
+// The calls: start, the five events and the two questions. An event takes the table by value and returns the next.
 ghost use Rattle.event.specs.declared.said.Event.the-variants.{Ask, Beat, Complete, Open, Release};
 ghost use Rattle.rows.specs.Order.{jobs};
 ghost use Rattle.arbiter.specs.Promises.{Answered, AnsweredInto, Refuses, Reports, Started, ToldLate};
@@ -92,7 +92,7 @@ impl Table {
         }
     }
 
-    // The job's request becomes live with the next turn and this declared set.
+    // The job has a request with the next turn and this declared set.
     pub fn open(self, job: u32, tick: Tick, declared: u64) -> Next
         ensures { λ r. ⌜ Answered jobs self (Open job tick declared) r ⌝ }
     {

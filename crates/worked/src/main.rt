@@ -43,7 +43,7 @@ fn no_limit(s: Now, room: &mut [u8]) -> Now
     called::open(a, room, 0, 0, FIRST)
 }
 
-// Job 63 opens and 64 gives 4.
+// There is a job 63 and no job 64.
 fn jobs(s: Now, room: &mut [u8]) -> Now
     ensures { λ r. ⌜ s .out .failures ≤ r .out .failures ⌝ }
 {
@@ -52,7 +52,7 @@ fn jobs(s: Now, room: &mut [u8]) -> Now
     called::open(b, room, 64, 1001, FIRST)
 }
 
-// Set 0 gives 11. R = 64 takes resource 63.
+// An empty set is refused, and with R = 64 there is a resource 63.
 fn sets(s: Now, room: &mut [u8]) -> Now
     ensures { λ r. ⌜ s .out .failures ≤ r .out .failures ⌝ }
 {
@@ -60,7 +60,7 @@ fn sets(s: Now, room: &mut [u8]) -> Now
     called::ask(a, room, 63, 1002, LAST)
 }
 
-// Asking {0} again while it is held gives 14.
+// What is held cannot be asked for a second time.
 fn held(s: Now, room: &mut [u8]) -> Now
     ensures { λ r. ⌜ s .out .failures ≤ r .out .failures ⌝ }
 {
@@ -102,7 +102,7 @@ fn completes(s: Now, room: &mut [u8]) -> Now
     called::report(b, room, 1)
 }
 
-// The second completes, too. R = 63 does not take resource 63.
+// The second completes, too. With R = 63 there is no resource 63.
 fn narrower(s: Now, room: &mut [u8]) -> Now
     ensures { λ r. ⌜ s .out .failures ≤ r .out .failures ⌝ }
 {
