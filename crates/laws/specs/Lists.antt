@@ -73,6 +73,11 @@ module _ {A B : Type 0} (f : B → Bool) (g : A → B) where
   count-map [] = refl
   count-map (x ∷ l) = ap (λ (n : ℕ). bit (f (g x)) + n) (count-map l)
 
+  pub any-map : (l : List A) → any f (map g l) ≡ any (λ x. f (g x)) l
+  unfolding any
+  any-map [] = refl
+  any-map (x ∷ l) = ap (λ (b : Bool). f (g x) || b) (any-map l)
+
   pub all-map : (l : List A) → all f (map g l) ≡ all (λ x. f (g x)) l
   unfolding all
   all-map [] = refl

@@ -1,6 +1,6 @@
 -- Sets of resources as numbers: resource a is the bit of value 2 ^ a. Every law holds for numbers of any size, so for every width at once.
 use Prim.Native.Nat.{ℕ, zero, suc, _+_, _-_, _/_, _%_, _^_, _≤_, _<_}
-use mathlib.Core.Bool.{Bool, true, false, not, xor, _&&_, _||_, true≢false, and-eq-true-iff, or-false, or-self, and-comm, or-comm, and-or-distrib-left, and-self-left}
+use mathlib.Core.Bool.{Bool, true, false, not, xor, _&&_, _||_, true≢false, and-eq-true-iff, or-false, and-self, or-self, and-assoc, or-assoc, and-comm, or-comm, and-or-distrib-left, and-self-left}
 use mathlib.Core.Logic.{_↔_}
 use mathlib.Core.Path.{_≡_, refl, sym, ap, _∙_}
 use native.Mathlib.Nat.{mod-lt, zero-div, div-eq-of-lt, le-div-iff-mul-le, le-add-right, add-sub-of-le, lt-of-lt-of-le}
@@ -214,6 +214,9 @@ pub ruleset members = (member-meet, member-union, member-without, member-empty)
 pub union-comm : (s t : ℕ) → union s t ≡ union t s
 union-comm s t = ext (λ a. simp members (or-comm (member s a) (member t a)))
 
+pub union-assoc : (s t u : ℕ) → union (union s t) u ≡ union s (union t u)
+union-assoc s t u = ext (λ a. simp members (or-assoc (member s a) (member t a) (member u a)))
+
 pub union-self : (s : ℕ) → union s s ≡ s
 union-self s = ext (λ a. simp members (or-self (member s a)))
 
@@ -222,6 +225,12 @@ union-empty s = ext (λ a. simp (members, or-false))
 
 pub meet-comm : (s t : ℕ) → meet s t ≡ meet t s
 meet-comm s t = ext (λ a. simp members (and-comm (member s a) (member t a)))
+
+pub meet-assoc : (s t u : ℕ) → meet (meet s t) u ≡ meet s (meet t u)
+meet-assoc s t u = ext (λ a. simp members (and-assoc (member s a) (member t a) (member u a)))
+
+pub meet-self : (s : ℕ) → meet s s ≡ s
+meet-self s = ext (λ a. simp members (and-self (member s a)))
 
 pub meet-union : (s t u : ℕ) → meet s (union t u) ≡ union (meet s t) (meet s u)
 meet-union s t u = ext (λ a. simp members (and-or-distrib-left (member s a) (member t a) (member u a)))
@@ -241,6 +250,10 @@ some-union (suc s) t =
 pub meets-union : (s t u : ℕ) → meets s (union t u) ≡ (meets s t || meets s u)
 unfolding meets
 meets-union s t u = rw meet-union (some-union (meet s t) (meet s u))
+
+pub inside-refl : (s : ℕ) → inside s s ≡ true
+unfolding inside
+inside-refl s = eq-eqb (meet s s) s (meet-self s)
 
 pub inside-trans : (s t u : ℕ) → inside s t ≡ true → inside t u ≡ true → inside s u ≡ true
 inside-trans s t u p q = inside-reads s u .holds .1 (λ a m. inside-reads t u .holds .0 q a (inside-reads s t .holds .0 p a m))
