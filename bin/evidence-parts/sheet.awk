@@ -216,7 +216,7 @@ function show_rests(    i) {
 }
 
 function show_trust(    i) {
-    print "para", "What the verdicts say they took on trust (the toolchain's guide DESIGN.md, under Verdict, says what the words mean), and C code that programs link:"
+    print "para", "What the verdicts say they took on trust (the toolchain's own design guide says under Verdict what the words mean), and C code that programs link:"
     print "cols", "words", "crates"
     for (i = 1; i <= crate_count; i++) share(at(rests, crates[i], "NOT SAID"), crates[i])
     for (i = 1; i <= crate_count; i++) if (c_code(crates[i]) != "") share(c_code(crates[i]), crates[i])

@@ -9,7 +9,6 @@ use arbiter::Next;
 use arbiter::Report;
 use arbiter::Reported;
 use arbiter::Table;
-use event::Refusal;
 use event::number;
 use record::Writing;
 use rows::Turn;
