@@ -1,4 +1,4 @@
-// A number's decimal text, written into a lent buffer.
+// Text written into a lent buffer: a number's decimal text, or any.
 ghost use Prim.Native.Nat.{_+_, _≤_};
 ghost use mathlib.Core.Path.{_≡_};
 ghost use lib.ListN.{length};
@@ -33,4 +33,17 @@ pub fn write(n: u64, out: &mut [u8], at: usize) -> usize
     }
     out[k] = 48 + left as u8;
     end
+}
+
+// Puts text at place `at` of out, and returns the place behind it.
+pub fn put(text: &[u8], out: &mut [u8], at: usize) -> usize
+    requires { ⌜ at + length (now text) ≤ length (now out) ⌝ }
+    ensures { λ r. ⌜ Wrote (now (out .entry)) at (now (text .entry)) r (now (out .exit)) ⌝ }
+{
+    let mut i = 0;
+    while i < text.len() {
+        out[at + i] = text[i];
+        i += 1;
+    }
+    at + i
 }

@@ -10,21 +10,9 @@ ghost use Rattle.listing.specs.Listing.{endLine, items, line, no, ok, wo
 ghost use Rattle.listing.specs.Promises.{lineRoom, told, wordRoom};
 use arbiter::Answer;
 use arbiter::Table;
+use decimal::put;
 use rows::JOBS;
 use rows::live_count;
-
-// Puts text at place `at` of out, and returns the place behind it.
-fn put(text: &[u8], out: &mut [u8], at: usize) -> usize
-    requires { ⌜ at + length (now text) ≤ length (now out) ⌝ }
-    ensures { λ r. ⌜ Wrote (now (out .entry)) at (now (text .entry)) r (now (out .exit)) ⌝ }
-{
-    let mut i = 0;
-    while i < text.len() {
-        out[at + i] = text[i];
-        i += 1;
-    }
-    at + i
-}
 
 // Puts a word and a number behind it.
 fn put_number(word: &[u8], n: u64, out: &mut [u8], at: usize) -> usize

@@ -1,7 +1,6 @@
 // Text and numbers to standard output.
-ghost use Prim.Native.Nat.{_+_, _≤_};
+ghost use Prim.Native.Nat.{_≤_};
 ghost use lib.ListN.{length};
-ghost use Rattle.laws.specs.Front.{Wrote};
 ghost use Rattle.decimal.specs.Text.{text as decimal};
 ghost use Rattle.stream.specs.Printing.{Flushed, Printed, Ready};
 use libc::STDOUT_FILENO;
@@ -57,19 +56,6 @@ fn ready(out: Out, room: &[u8], n: usize) -> Out
     out
 }
 
-// Puts the bytes in the room from `at` on, and returns the place behind them.
-fn lay(room: &mut [u8], at: usize, bytes: &[u8]) -> usize
-    requires { ⌜ at + length (now bytes) ≤ length (now room) ⌝ }
-    ensures { λ r. ⌜ Wrote (now (room .entry)) at (now (bytes .entry)) r (now (room .exit)) ⌝ }
-{
-    let mut i = 0;
-    while i < bytes.len() {
-        room[at + i] = bytes[i];
-        i += 1;
-    }
-    at + i
-}
-
 // Prints the bytes. They wait in the room, which is written first if they do not fit behind what waits there; a text that is
 // longer than the room goes straight out.
 pub fn text(out: Out, room: &mut [u8], bytes: &[u8]) -> Out
@@ -82,7 +68,7 @@ pub fn text(out: Out, room: &mut [u8], bytes: &[u8]) -> Out
             failures: hand_over(start.failures, bytes),
         };
     }
-    let end = lay(room, start.at, bytes);
+    let end = decimal::put(bytes, room, start.at);
     Out {
         at: end,
         failures: start.failures,

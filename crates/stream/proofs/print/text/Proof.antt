@@ -19,14 +19,14 @@ same-length c = search needs
 returns : tie.Need-returns
 returns c = record { waits = λ h. absurd (omega arith); straight = λ h. (refl, refl); kept = omega arith }
 
-lay-requires : tie.Need-lay-requires
-lay-requires c κs = omega (arith, c .before .before .ready .ensures .place, place-fits (length (c .before .before .before .before .before .before .args .room .now)) (c .before .before .before .before .before .before .args .out .at) (length (c .before .before .before .before .before .before .args .bytes .now)) (omega arith))
+put-requires : tie.Need-put-requires
+put-requires c κs = omega (arith, c .before .before .ready .ensures .place, place-fits (length (c .before .before .before .before .before .before .args .room .now)) (c .before .before .before .before .before .before .args .out .at) (length (c .before .before .before .before .before .before .args .bytes .now)) (omega arith))
 
 same-length-2 : tie.Need-same-length-2
 same-length-2 c = search needs
 
 returns-2 : tie.Need-returns-2
-returns-2 c = record { waits = λ h. rw (← c .before .before .before .before .before .ready .ensures .place) (c .before .before .lay .ensures); straight = λ h. absurd (omega arith); kept = omega arith }
+returns-2 c = record { waits = λ h. rw (← c .before .before .before .before .before .ready .ensures .place) (c .before .before .put .ensures); straight = λ h. absurd (omega arith); kept = omega arith }
 
 pub text-spec : {M : Type 1} → statement M
 text-spec =
@@ -36,6 +36,6 @@ text-spec =
     hand-over-requires
     same-length
     returns
-    lay-requires
+    put-requires
     same-length-2
     returns-2)

@@ -9,8 +9,8 @@ use lib.ListN.{getD, length, set, take, length-set}
 use lib.Seq.{take-all, take-suc}
 use borrow.Author.Needs.{needs}
 use Rattle.laws.specs.Front.{Wrote, then, wrote-none, wrote-one}
-use Rattle.listing.proofs.writing.put.Statement.{statement}
-use Rattle.listing.proofs.writing.put.Tie as tie
+use Rattle.decimal.proofs.put.Statement.{statement}
+use Rattle.decimal.proofs.put.Tie as tie
 
 -- one byte more
 module _ (out₀ out text : List ℕ) (at i : ℕ) (below : i < length text) (inside : at + i < length out) where
