@@ -159,6 +159,10 @@ report t j = outcome (reportCases t j) (reported t (rowOf (t .rows) j))
 abbrev pub lateJob : ℕ → ℕ → ℕ → List Row → ℕ → Bool
 lateJob T limit time rows j = waiting T rows (rowOf rows j) && leb limit (time - rowOf rows j .since)
 
+-- the same by the job's row r and what is known of the row's turn
+abbrev pub lateBy : ℕ → ℕ → ℕ → Standing → Row → Bool
+lateBy T limit time s r = waitingBy T s r && leb limit (time - r .since)
+
 -- the waiting jobs whose wait up to this time is the limit or more, in order of turn
 unfoldable pub lateAt : Table → ℕ → List ℕ
 lateAt t time = keep (lateJob (t .tokens) (t .limit) time (t .rows)) (line (t .rows))
@@ -181,7 +185,3 @@ overdueList t tick out = leaves (overdueCases (length out) t tick) out (over (la
 unfoldable pub run : Table → List Event → Table
 run t [] = t
 run t (e ∷ es) = run (next jobs t e) es
-
--- a job is late, by its row r and what is known of the row's turn
-abbrev pub lateBy : ℕ → ℕ → ℕ → Standing → Row → Bool
-lateBy T limit time s r = waitingBy T s r && leb limit (time - r .since)
