@@ -5,7 +5,8 @@ use mathlib.Core.Path.{_≡_, sym, ap, _∙_}
 use Rattle.event.specs.Refusals.{numberOf}
 use Rattle.event.specs.declared.refusal.Refusal.{Refusal}
 use Rattle.event.specs.declared.said.Event.{Event}
-use Rattle.laws.specs.Cases.{acceptance-tells, fine, outcome, refusal-tells, refused}
+use Rattle.laws.specs.CaseLaws.{acceptance-tells, refusal-tells}
+use Rattle.laws.specs.Cases.{fine, outcome, refused}
 use Rattle.laws.specs.Front.{over}
 use lib.ListN.{length}
 use Rattle.arbiter.specs.Meaning.{accepted, answer, listed, next, told, wakes}

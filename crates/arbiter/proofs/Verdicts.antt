@@ -8,8 +8,9 @@ use native.Mathlib.Omega.{arith}
 use lib.Dec.{leb}
 use Rattle.event.specs.Clock.{momentOf}
 use Rattle.event.specs.declared.clock.Moment.{Moment}
-use Rattle.laws.specs.Cases.{Case, Outcome, acceptance-tells, ascending, case, clear, fine, outcome}
-use Rattle.laws.specs.Bools.{and-left, and-right}
+use Rattle.laws.specs.Cases.{Case, Outcome, ascending, case, fine, outcome}
+use Rattle.laws.specs.CaseLaws.{acceptance-tells, clear}
+use Rattle.laws.specs.BoolLaws.{and-left, and-right}
 use Rattle.laws.specs.Lists.{all}
 use Rattle.rows.specs.Order.{distinct, jobs}
 use Rattle.arbiter.specs.Sound.{counters, holds, ranges, sound, soundRow}

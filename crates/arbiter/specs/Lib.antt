@@ -3,5 +3,6 @@ pub mod Answers
 pub mod Meaning
 pub mod Promises
 pub mod Readings
+pub mod RefusalLaws
 pub mod Refusals
 pub mod Sound

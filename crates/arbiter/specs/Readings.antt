@@ -13,8 +13,10 @@ use Rattle.event.specs.declared.said.Event.the-variants.{Ask, Release}
 use Rattle.laws.specs.Cases.{case}
 use Rattle.laws.specs.Counts.{all-each}
 use Rattle.laws.specs.Lists.{all}
-use Rattle.laws.specs.Reads.{Reads, reading, reads-not}
-use Rattle.laws.specs.Sets.{below, below-reads, empty, inside, inside-reads, meets-reads, member, some-member}
+use Rattle.laws.specs.Reads.{Reads}
+use Rattle.laws.specs.ReadsLaws.{reading, reads-not}
+use Rattle.laws.specs.Sets.{below, inside, member}
+use Rattle.laws.specs.SetLaws.{below-reads, empty, inside-reads, meets-reads, some-member}
 use Rattle.rows.specs.InWay.{InTheWay, in-way-at, in-way-some}
 use Rattle.rows.specs.Line.{rowOf}
 use Rattle.rows.specs.Order.{blocked, inWay}

@@ -1,13 +1,12 @@
 -- When a call is refused: each call's cases in the order of document 01, "Refusal numbers".
 use Prim.Native.Nat.{ℕ, _-_, _^_}
-use mathlib.Core.Bool.{true, not}
+use mathlib.Core.Bool.{not}
 use mathlib.Core.List.{List, [], _∷_, _++_}
-use mathlib.Core.Path.{_≡_, refl}
 use lib.Dec.{eqb, leb, ltb}
 use Rattle.event.specs.Clock.{clockCases}
 use Rattle.event.specs.declared.said.Event.{Event}
 use Rattle.event.specs.declared.said.Event.the-variants.{Beat, Open, Ask, Release, Complete}
-use Rattle.laws.specs.Cases.{Case, ascending, ascends, when}
+use Rattle.laws.specs.Cases.{Case, when}
 use Rattle.laws.specs.Sets.{below, inside, meets}
 use Rattle.rows.specs.Line.{rowOf}
 use Rattle.rows.specs.Order.{jobs, live, token}
@@ -87,25 +86,3 @@ reportCases t j = unsoundTable t ∷ noSuchJob j ∷ when 8 (not (live (rowOf (t
 -- the cases of the question who is overdue, with a lent list of n entries
 abbrev pub overdueCases : ℕ → Table → ℕ → List Case
 overdueCases n t tick = shortList n ∷ tickCases t tick
-
--- ---- Laws: the numbers of each call's cases ascend, so the first that applies is the lowest
-
-pub cases-ascend : (n : ℕ) (t : Table) (e : Event) → ascending (cases n t e) ≡ true
-unfolding ascends
-cases-ascend n t (Beat tick) = refl
-cases-ascend n t (Open j tick s) = refl
-cases-ascend n t (Ask j tick s) = refl
-cases-ascend n t (Release j tick s) = refl
-cases-ascend n t (Complete j tick) = refl
-
-pub start-ascends : (T R limit : ℕ) → ascending (startCases T R limit) ≡ true
-unfolding ascends
-start-ascends T R limit = refl
-
-pub report-ascends : (t : Table) (j : ℕ) → ascending (reportCases t j) ≡ true
-unfolding ascends
-report-ascends t j = refl
-
-pub overdue-ascends : (n : ℕ) (t : Table) (tick : ℕ) → ascending (overdueCases n t tick) ≡ true
-unfolding ascends
-overdue-ascends n t tick = refl

@@ -2,7 +2,8 @@
 ghost use Prim.Native.Nat.{_+_, _-_, _<_, _≤_, _^_};
 ghost use mathlib.Core.Path.{_≡_};
 ghost use lib.ListN.{length, set};
-ghost use Rattle.rows.specs.Line.{Listed, rowOf};
+ghost use Rattle.rows.specs.LineInCode.{Listed};
+ghost use Rattle.rows.specs.Line.{rowOf};
 ghost use Rattle.rows.specs.Marks.{Marks};
 ghost use Rattle.rows.specs.Order.{jobs};
 ghost use Rattle.rows.specs.Stand.{Surveyed};

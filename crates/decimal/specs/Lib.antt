@@ -1,2 +1,3 @@
 -- Numbers in decimal.
 pub mod Text
+pub mod TextLaws

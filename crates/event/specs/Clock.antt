@@ -1,11 +1,8 @@
 -- Ticks and true time, as document 01 words them under "Ticks and turns".
-use Prim.Native.Nat.{ℕ, _+_, _-_, _%_, _^_, _<_, _≤_}
-use mathlib.Core.List.{List, [], _∷_, map}
-use mathlib.Core.Path.{_≡_, refl, sym, ap, _∙_}
-use native.Mathlib.Omega.{arith}
-use borrow.Author.Tests.{le-ltb, lt-leb}
+use Prim.Native.Nat.{ℕ, _+_, _-_, _%_, _^_, _≤_}
+use mathlib.Core.List.{List, [], _∷_}
 use lib.Dec.{leb, ltb}
-use Rattle.laws.specs.Cases.{Case, when, Outcome, refused, fine, outcome, outcome-is, acceptance-tells, none, past}
+use Rattle.laws.specs.Cases.{Case, when, Outcome, refused, fine, outcome}
 use Rattle.event.specs.Refusals.{numberOf}
 use Rattle.event.specs.declared.clock.Moment.{Moment}
 use Rattle.event.specs.declared.clock.Moment.the-variants.{No, At}
@@ -42,31 +39,7 @@ forwards time (tick ∷ ticks) = forward time tick ∷ forwards (after time (for
 
 -- ---- True time is real time, wraps and all
 
--- the low 32 bits of an accepted time are the tick that gave it
-pub forward-low : (time tick n : ℕ) → tick < 2 ^ 32 → forward time tick ≡ fine n → n % 2 ^ 32 ≡ tick
-unfolding forward
-forward-low time tick n h e =
-    let sum = acceptance-tells {B = ℕ} (clockCases time tick) (time + difference time tick) n e .1 in
-    omega arith
-
--- the tick of a real time that is at most 2^31-1 ms on gives that time
-pub forward-real :
-    (time n : ℕ) → time ≤ n → n ≤ time + (2 ^ 31 - 1) → n ≤ 2 ^ 63 - 1 → forward time (n % 2 ^ 32) ≡ fine n
-unfolding forward
-forward-real time n low near last =
-    let ahead : difference time (n % 2 ^ 32) ≡ n - time = omega arith in
-    let sum : time + difference time (n % 2 ^ 32) ≡ n = omega arith in
-    let forth = lt-leb (2 ^ 31) (difference time (n % 2 ^ 32)) (omega arith) in
-    let within = le-ltb (2 ^ 63 - 1) (time + difference time (n % 2 ^ 32)) (omega arith) in
-    sym (outcome-is _ (past forth (past within none))) ∙ ap fine sum
-
 -- real times, each at most 2^31-1 ms after the one before
 pub data Often : ℕ → List ℕ → Type 0 where
   ended : {time : ℕ} → Often time []
   then : {time n : ℕ} {ns : List ℕ} → time ≤ n → n ≤ time + (2 ^ 31 - 1) → n ≤ 2 ^ 63 - 1 → Often n ns → Often time (n ∷ ns)
-
--- ticks taken often enough: true time is real time at each of them
-pub forwards-real : {time : ℕ} {ns : List ℕ} → Often time ns → forwards time (map (λ n. n % 2 ^ 32) ns) ≡ map fine ns
-unfolding forwards
-forwards-real ended = refl
-forwards-real (then {time = time} {n = n} low near last more) = rw (forward-real time n low near last) (ap (λ l. fine n ∷ l) (forwards-real more))

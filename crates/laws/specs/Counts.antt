@@ -6,7 +6,8 @@ use mathlib.Core.Path.{_≡_, refl, sym, ap, fun-ext, _∙_}
 use native.Mathlib.Nat.{le-antisymm, lt-irrefl, zero-add}
 use native.Mathlib.Omega.{arith}
 use lib.ListN.{getD, length}
-use Rattle.laws.specs.Bools.{bit, and-left, and-right}
+use Rattle.laws.specs.Bools.{bit}
+use Rattle.laws.specs.BoolLaws.{and-left, and-right}
 use Rattle.laws.specs.Lists.{all, count}
 
 module _ {A : Type 0} (f : A → Bool) (d : A) where

@@ -1,8 +1,14 @@
 -- Laws that mention nothing of drives.
+pub mod BoolLaws
 pub mod Bools
+pub mod CaseLaws
 pub mod Cases
 pub mod Counts
 pub mod Front
+pub mod FrontLaws
+pub mod ListLaws
 pub mod Lists
 pub mod Reads
+pub mod ReadsLaws
+pub mod SetLaws
 pub mod Sets

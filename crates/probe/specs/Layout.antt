@@ -9,7 +9,7 @@ use Rattle.arbiter.specs.declared.table.Table.{Table}
 use Rattle.event.specs.declared.said.Entry.{Entry}
 use Rattle.event.specs.declared.said.Entry.the-variants as entry
 use Rattle.fields.specs.Packing.{fieldAt}
-use Rattle.laws.specs.Lists.{Filled}
+use Rattle.laws.specs.ListLaws.{Filled}
 use Rattle.record.specs.Format.{eventOf}
 use Rattle.rows.specs.Order.{idle, jobs}
 use Rattle.rows.specs.declared.row.Row.{Row}

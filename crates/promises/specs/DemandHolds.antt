@@ -9,7 +9,8 @@ use lib.ListN.{length-replicate}
 use Rattle.event.specs.declared.clock.Tick.{Tick}
 use Rattle.event.specs.declared.said.Event.{Event}
 use Rattle.event.specs.declared.said.Event.the-variants.{Ask, Open}
-use Rattle.laws.specs.Cases.{acceptance-tells, fine}
+use Rattle.laws.specs.CaseLaws.{acceptance-tells}
+use Rattle.laws.specs.Cases.{fine}
 use Rattle.laws.specs.Lists.{count}
 use Rattle.rows.specs.Order.{ahead, claims, earlier, idle, inWay, jobs, live}
 use Rattle.rows.specs.declared.row.Row.{Row}

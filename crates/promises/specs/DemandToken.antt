@@ -12,11 +12,13 @@ use lib.Seq.{getD-set-same}
 use Rattle.event.specs.declared.clock.Tick.{Tick}
 use Rattle.event.specs.declared.said.Event.{Event}
 use Rattle.event.specs.declared.said.Event.the-variants.{Open}
-use Rattle.laws.specs.Bools.{bit, bit-le, and-left, either}
+use Rattle.laws.specs.Bools.{bit}
+use Rattle.laws.specs.BoolLaws.{bit-le, and-left, either}
 use Rattle.laws.specs.Counts.{count-mono}
 use Rattle.laws.specs.Lists.{count}
 use Rattle.rows.specs.InWay.{ahead-mono}
-use Rattle.rows.specs.Order.{ahead, ahead-set, blocked, earlier, idle, jobs, live, token, waiting}
+use Rattle.rows.specs.Order.{ahead, blocked, earlier, idle, jobs, live, token, waiting}
+use Rattle.rows.specs.OrderLaws.{ahead-set}
 use Rattle.rows.specs.Turns.{turn-earlier}
 use Rattle.rows.specs.declared.row.Row.{Row}
 use Rattle.arbiter.specs.Meaning.{accepted, next, openedRow, run, timeAt, wakes}

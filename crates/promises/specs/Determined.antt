@@ -4,7 +4,7 @@ use Prim.Native.Nat.{ℕ}
 use mathlib.Core.List.{List}
 use mathlib.Core.Path.{_≡_, refl, sym, ap, _∙_}
 use Rattle.event.specs.Clock.{momentOf}
-use Rattle.event.specs.Refusals.{refusalOf, refusalOf-numberOf}
+use Rattle.event.specs.RefusalLaws.{refusalOf, refusalOf-numberOf}
 use Rattle.event.specs.declared.clock.Moment.{Moment}
 use Rattle.event.specs.declared.clock.Moment.the-variants as Moments
 use Rattle.event.specs.declared.refusal.Refusal.{Refusal}

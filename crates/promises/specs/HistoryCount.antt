@@ -10,11 +10,13 @@ use lib.Dec.{ltb}
 use lib.ListN.{length, length-set, set}
 use Rattle.event.specs.declared.said.Event.{Event}
 use Rattle.event.specs.declared.said.Event.the-variants.{Beat, Open, Ask, Release, Complete}
-use Rattle.laws.specs.Bools.{bit, either}
-use Rattle.laws.specs.Lists.{count, count-set}
+use Rattle.laws.specs.Bools.{bit}
+use Rattle.laws.specs.BoolLaws.{either}
+use Rattle.laws.specs.Lists.{count}
+use Rattle.laws.specs.ListLaws.{count-set}
 use Rattle.laws.specs.Sets.{meets}
 use Rattle.rows.specs.Order.{ahead, blocked, claims, earlier, idle, inWay, jobs, opened}
-use Rattle.rows.specs.Sweep.{count-settled, length-settled}
+use Rattle.rows.specs.SweepLaws.{count-settled, length-settled}
 use Rattle.rows.specs.Turns.{not-earlier}
 use Rattle.rows.specs.declared.row.Row.{Row}
 use Rattle.arbiter.specs.Meaning.{accepted, askedRow, moved, next, openedRow, releasedRow, run, timeAt}

@@ -7,9 +7,11 @@ use native.Mathlib.Omega.{arith}
 use borrow.Author.Tests.{lt-ltb, ltb-false}
 use lib.Dec.{ltb}
 use Rattle.event.specs.declared.said.Event.{Event}
-use Rattle.laws.specs.Sets.{union, union-empty}
+use Rattle.laws.specs.Sets.{union}
+use Rattle.laws.specs.SetLaws.{union-empty}
 use Rattle.rows.specs.Order.{blocked, inWay, jobs, live, token, waiting}
-use Rattle.rows.specs.Sweep.{granted, granted-keeps, rested, swept, swept-keeps}
+use Rattle.rows.specs.Sweep.{granted, rested, swept}
+use Rattle.rows.specs.SweepLaws.{granted-keeps, swept-keeps}
 use Rattle.rows.specs.Turns.{waiting-reads}
 use Rattle.rows.specs.declared.row.Row.{Row}
 use Rattle.arbiter.specs.Meaning.{accepted}

@@ -6,10 +6,11 @@ use native.Mathlib.Omega.{arith}
 use lib.ListN.{set}
 use Rattle.event.specs.declared.said.Event.{Event}
 use Rattle.event.specs.declared.said.Event.the-variants.{Beat, Open, Ask, Release, Complete}
-use Rattle.laws.specs.Bools.{either}
+use Rattle.laws.specs.BoolLaws.{either}
 use Rattle.rows.specs.Line.{rowOf}
 use Rattle.rows.specs.Order.{blocked, idle, jobs, opened}
-use Rattle.rows.specs.Sweep.{row-settled, settled, swept-keeps}
+use Rattle.rows.specs.SweepLaws.{row-settled, swept-keeps}
+use Rattle.rows.specs.Sweep.{settled}
 use Rattle.rows.specs.Turns.{at-set}
 use Rattle.rows.specs.declared.row.Row.{Row}
 use Rattle.arbiter.specs.Meaning.{accepted, askedRow, next, openedRow, releasedRow, run, timeAt}

@@ -8,13 +8,15 @@ use native.Mathlib.Omega.{arith}
 use borrow.Author.Tests.{not-false}
 use lib.ListN.{replicate}
 use Rattle.event.specs.declared.said.Event.{Event}
-use Rattle.laws.specs.Cases.{Case, acceptance-tells, ascending, case, clear, first, first-applies, leaves, outcome, refusal-tells, refused, fine, keepUnless}
+use Rattle.laws.specs.Cases.{Case, ascending, case, first, leaves, outcome, refused, fine, keepUnless}
+use Rattle.laws.specs.CaseLaws.{acceptance-tells, clear, first-applies, refusal-tells}
 use Rattle.rows.specs.Line.{rowOf}
 use Rattle.rows.specs.Order.{idle, jobs}
 use Rattle.rows.specs.declared.row.Row.{Row}
 use Rattle.arbiter.specs.Answers as Answers
 use Rattle.arbiter.specs.Meaning.{accepted, answer, freshTable, next, noTable, overdue, report, run, startAnswer, startTable}
-use Rattle.arbiter.specs.Refusals.{cases, cases-ascend, overdue-ascends, overdueCases, report-ascends, reportCases, start-ascends, startCases}
+use Rattle.arbiter.specs.Refusals.{cases, overdueCases, reportCases, startCases}
+use Rattle.arbiter.specs.RefusalLaws.{cases-ascend, overdue-ascends, report-ascends, start-ascends}
 use Rattle.arbiter.specs.Sound.{holds, ranges, sound}
 use Rattle.arbiter.specs.declared.table.Table.{Table}
 use Rattle.promises.specs.KeptAccepted.{Accepts, case-unsound, leaves-new}

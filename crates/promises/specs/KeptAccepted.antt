@@ -10,11 +10,13 @@ use lib.Dec.{leb, ltb}
 use Rattle.event.specs.declared.clock.Tick.{Tick}
 use Rattle.event.specs.declared.said.Event.{Event}
 use Rattle.event.specs.declared.said.Event.the-variants.{Beat, Open, Ask, Release, Complete}
-use Rattle.laws.specs.Cases.{Case, case, clear, first, fine, outcome, leaves}
+use Rattle.laws.specs.Cases.{Case, case, first, fine, outcome, leaves}
+use Rattle.laws.specs.CaseLaws.{clear}
 use Rattle.rows.specs.Order.{ahead, jobs, live, token, waiting}
 use Rattle.rows.specs.Turns.{waiting-reads}
 use Rattle.arbiter.specs.Meaning.{accepted, answer, next, told}
-use Rattle.arbiter.specs.Refusals.{cases, cases-ascend}
+use Rattle.arbiter.specs.Refusals.{cases}
+use Rattle.arbiter.specs.RefusalLaws.{cases-ascend}
 use Rattle.arbiter.specs.Sound.{sound}
 use Rattle.arbiter.specs.declared.table.Table.{Table}
 use Rattle.promises.specs.Sound.{SoundTable, rowIn, table-sound}

@@ -14,10 +14,13 @@ use Rattle.event.specs.declared.clock.Tick.{Tick}
 use Rattle.event.specs.declared.said.Event.{Event}
 use Rattle.event.specs.declared.said.Event.the-variants.{Beat, Open, Ask, Release, Complete}
 use Rattle.laws.specs.Cases.{case}
-use Rattle.laws.specs.Sets.{below, inside, inside-empty, inside-trans, meets, meets-comm, meets-empty, meets-inside, without, without-inside, without-le}
+use Rattle.laws.specs.Sets.{below, inside, meets, without}
+use Rattle.laws.specs.SetLaws.{inside-empty, inside-trans, meets-comm, meets-empty, meets-inside, without-inside, without-le}
 use Rattle.rows.specs.InWay.{in-way-empty, in-way-inside}
-use Rattle.rows.specs.Order.{ahead, ahead-set, idle, in-way-set, token, waiting}
-use Rattle.rows.specs.Sweep.{distinct-settled, row-settled, settled, swept, swept-idle}
+use Rattle.rows.specs.Order.{ahead, idle, token, waiting}
+use Rattle.rows.specs.OrderLaws.{ahead-set, in-way-set}
+use Rattle.rows.specs.SweepLaws.{distinct-settled, row-settled, swept-idle}
+use Rattle.rows.specs.Sweep.{settled, swept}
 use Rattle.rows.specs.Turns.{at-set, distinct-rows, distinct-set, distinct-test, live-within, waiting-reads}
 use Rattle.rows.specs.declared.row.Row.{Row}
 use Rattle.arbiter.specs.Meaning.{accepted, askedRow, moved, openedRow, releasedRow, timeAt}

@@ -9,8 +9,10 @@ use lib.Seq.{getD-set-same}
 use Rattle.event.specs.declared.clock.Tick.{Tick}
 use Rattle.event.specs.declared.said.Event.{Event}
 use Rattle.event.specs.declared.said.Event.the-variants.{Open, Ask, Release}
-use Rattle.laws.specs.Cases.{acceptance-tells, case, fine}
-use Rattle.laws.specs.Sets.{inside, inside-reads, inside-trans, meets-reads, member, member-without, without}
+use Rattle.laws.specs.CaseLaws.{acceptance-tells}
+use Rattle.laws.specs.Cases.{case, fine}
+use Rattle.laws.specs.Sets.{inside, member, without}
+use Rattle.laws.specs.SetLaws.{inside-reads, inside-trans, meets-reads, member-without}
 use Rattle.rows.specs.InWay.{InTheWay, in-way-at}
 use Rattle.rows.specs.Order.{blocked, idle, inWay, jobs, token}
 use Rattle.rows.specs.Turns.{live-within}

@@ -10,11 +10,14 @@ use lib.Dec.{ltb}
 use lib.ListN.{length, set}
 use lib.Seq.{set-out}
 use Rattle.laws.specs.Bools.{bit}
-use Rattle.laws.specs.Sets.{inside, inside-empty, inside-union, meets, meets-empty, union-self}
+use Rattle.laws.specs.Sets.{inside, meets}
+use Rattle.laws.specs.SetLaws.{inside-empty, inside-union, meets-empty, union-self}
 use Rattle.rows.specs.InWay.{in-way-union}
 use Rattle.rows.specs.Line.{rowOf}
-use Rattle.rows.specs.Order.{ahead, ahead-set, claims, earlier, idle, in-way-set, inWay, live, waiting}
-use Rattle.rows.specs.Sweep.{ahead-settled, in-way-settled, settled}
+use Rattle.rows.specs.Order.{ahead, claims, earlier, idle, inWay, live, waiting}
+use Rattle.rows.specs.OrderLaws.{ahead-set, in-way-set}
+use Rattle.rows.specs.SweepLaws.{ahead-settled, in-way-settled}
+use Rattle.rows.specs.Sweep.{settled}
 use Rattle.rows.specs.Turns.{not-earlier}
 use Rattle.rows.specs.declared.row.Row.{Row}
 use Rattle.arbiter.specs.declared.table.Table.{Table}

@@ -12,10 +12,12 @@ use lib.Seq.{getD-set-other}
 use Rattle.event.specs.declared.clock.Tick.{Tick}
 use Rattle.event.specs.declared.said.Event.{Event}
 use Rattle.event.specs.declared.said.Event.the-variants.{Beat, Open, Ask, Release, Complete}
-use Rattle.laws.specs.Bools.{and-right}
-use Rattle.rows.specs.Line.{Each, each-head, each-tail, keep, line}
+use Rattle.laws.specs.BoolLaws.{and-right}
+use Rattle.rows.specs.LineLaws.{Each, each-head, each-tail}
+use Rattle.rows.specs.Line.{keep, line}
 use Rattle.rows.specs.Order.{idle, waiting}
-use Rattle.rows.specs.Sweep.{row-settled, swept, woken}
+use Rattle.rows.specs.SweepLaws.{row-settled}
+use Rattle.rows.specs.Sweep.{swept, woken}
 use Rattle.rows.specs.Turns.{live-within, waiting-reads}
 use Rattle.rows.specs.declared.row.Row.{Row}
 use Rattle.arbiter.specs.Meaning.{accepted, askedRow, next, openedRow, releasedRow, timeAt, wakes}

@@ -8,7 +8,7 @@ use native.Mathlib.Omega.{arith}
 use borrow.Author.Tests.{ltb-true, ltb-false, lt-ltb, le-ltb, leb-true, le-leb, eqb-true, eqb-false, eq-eqb, ne-eqb, not-true}
 use lib.Arith.{le-zero}
 use lib.Dec.{eqb, leb}
-use Rattle.laws.specs.Bools.{and-left, and-right}
+use Rattle.laws.specs.BoolLaws.{and-left, and-right}
 use Rattle.laws.specs.Counts.{all-each, each-all}
 use Rattle.laws.specs.Lists.{all}
 use Rattle.laws.specs.Sets.{below, inside, meets}

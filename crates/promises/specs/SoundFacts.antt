@@ -8,7 +8,8 @@ use native.Mathlib.Omega.{arith}
 use borrow.Author.Tests.{ltb-true}
 use Rattle.laws.specs.Counts.{count-at, count-same, count-some}
 use Rattle.laws.specs.Lists.{count}
-use Rattle.laws.specs.Sets.{inside-reads, meets, member, member-empty}
+use Rattle.laws.specs.SetLaws.{inside-reads, member-empty}
+use Rattle.laws.specs.Sets.{meets, member}
 use Rattle.rows.specs.InWay.{in-way-ahead, in-way-at}
 use Rattle.rows.specs.Line.{rowOf}
 use Rattle.rows.specs.Order.{ahead, claims, earlier, idle, inWay, live, token, waiting}

@@ -9,7 +9,8 @@ use Rattle.event.specs.declared.clock.Tick.{Tick}
 use Rattle.event.specs.declared.said.Event.{Event}
 use Rattle.event.specs.declared.said.Event.the-variants.{Open, Complete}
 use Rattle.laws.specs.Bools.{bit}
-use Rattle.laws.specs.Cases.{Outcome, fine, acceptance-tells, first, keepUnless, leaves, outcome, unless}
+use Rattle.laws.specs.Cases.{Outcome, fine, first, keepUnless, leaves, outcome, unless}
+use Rattle.laws.specs.CaseLaws.{acceptance-tells}
 use Rattle.laws.specs.Lists.{all, count}
 use Rattle.laws.specs.Sets.{below, inside, meet, meets, union}
 use Rattle.rows.specs.Line.{from, keep, lined, place}

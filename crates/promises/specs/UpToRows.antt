@@ -7,7 +7,8 @@ use native.Mathlib.Omega.{arith}
 use lib.ListN.{List·getD-map, set}
 use Rattle.rows.specs.Line.{rowOf}
 use Rattle.rows.specs.Order.{earlier, idle, waiting}
-use Rattle.rows.specs.Sweep.{settled, swept, swept-idle, swept-keeps}
+use Rattle.rows.specs.Sweep.{settled, swept}
+use Rattle.rows.specs.SweepLaws.{swept-idle, swept-keeps}
 use Rattle.rows.specs.Turns.{earlier-turn, turn-earlier}
 use Rattle.rows.specs.declared.row.Row.{Row}
 use Rattle.promises.specs.HistoryRow.{swept-alike}

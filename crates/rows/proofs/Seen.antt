@@ -6,8 +6,10 @@ use mathlib.Core.Path.{_≡_, refl, sym, _∙_}
 use native.Mathlib.Nat.{add-zero}
 use lib.ListN.{drop, length, drop-of-length-le}
 use Rattle.laws.specs.Bools.{bit}
-use Rattle.laws.specs.Lists.{Passed, any, any-count, any-drop, passed-all, passed-more, passed-none}
-use Rattle.laws.specs.Sets.{meet, meets, meets-comm, meets-union, union}
+use Rattle.laws.specs.ListLaws.{Passed, any-count, any-drop, passed-all, passed-more, passed-none}
+use Rattle.laws.specs.Lists.{any}
+use Rattle.laws.specs.Sets.{meet, meets, union}
+use Rattle.laws.specs.SetLaws.{meets-comm, meets-union}
 use Rattle.rows.specs.Line.{rowOf}
 use Rattle.rows.specs.Order.{ahead, blocked, claims, earlier, idle, inWay}
 use Rattle.rows.specs.Stand.{Stands, behind, joined, unknown}

@@ -4,9 +4,10 @@ use mathlib.Core.Bool.{Bool, true, false, and-eq-true-iff, false≢true}
 use mathlib.Core.List.{List}
 use mathlib.Core.Path.{_≡_, refl, sym, _∙_}
 use native.Mathlib.Omega.{arith}
-use Rattle.laws.specs.Bools.{and-left}
+use Rattle.laws.specs.BoolLaws.{and-left}
 use Rattle.laws.specs.Counts.{count-at, count-mono, count-some}
-use Rattle.laws.specs.Sets.{inside, inside-reads, meets, meets-reads, member, member-empty, member-union, union}
+use Rattle.laws.specs.Sets.{inside, meets, member, union}
+use Rattle.laws.specs.SetLaws.{inside-reads, meets-reads, member-empty, member-union}
 use Rattle.rows.specs.Line.{rowOf}
 use Rattle.rows.specs.Order.{ahead, claims, earlier, idle, inWay}
 use Rattle.rows.specs.declared.row.Row.{Row}

@@ -1,18 +1,11 @@
 -- The decisions about a row from what is known of its turn, and that they are those from the rows themselves.
-use Prim.Native.Nat.{ℕ, _<_}
+use Prim.Native.Nat.{ℕ}
 use mathlib.Core.Bool.{Bool, cond, not, _&&_, _||_}
-use mathlib.Core.List.{List}
-use mathlib.Core.Path.{_≡_, sym, ap, subst, _∙_}
 use lib.Dec.{ltb}
-use lib.ListN.{getD}
 use Rattle.laws.specs.Sets.{meets, union}
-use Rattle.rows.specs.Line.{rowOf}
-use Rattle.rows.specs.Order.{jobs, live, token, waiting}
-use Rattle.rows.specs.Stand.{Stands, Surveyed, unknown}
-use Rattle.rows.specs.Sweep.{ahead-settled, distinct-settled, granted, granted-keeps, in-way-settled, rested, settled, swept, turn-settled, woke}
+use Rattle.rows.specs.Order.{live}
 use Rattle.rows.specs.declared.row.Row.{Row}
 use Rattle.rows.specs.declared.stand.Standing.{Standing}
-use Rattle.rows.specs.declared.stand.Survey.{Survey}
 
 -- ---- Definitions
 
@@ -43,42 +36,3 @@ sweptBy T s r = restedBy T s (grantedBy s r)
 -- the row, r at s before and x at t after, waited before and does not wait after
 abbrev pub wokeBy : ℕ → Standing → Row → Standing → Row → Bool
 wokeBy T s r t x = waitingBy T s r && not (waitingBy T t x)
-
--- ---- Laws: they are the decisions from the rows
-
-module _ (T : ℕ) (rows : List Row) (s : Standing) where
-  pub token-by : (n : ℕ) → Stands rows n s → tokenBy T s ≡ token T rows n
-  token-by n stands = rw (stands .before)
-
-  pub waiting-by : (r : Row) → Stands rows (r .turn .0) s → waitingBy T s r ≡ waiting T rows r
-  waiting-by r stands = rw (token-by (r .turn .0) stands)
-
-  granted-by : (r : Row) → Stands rows (r .turn .0) s → grantedBy s r ≡ granted rows r
-  granted-by r stands = rw (stands .forbids (r .asked))
-
-  rested-by : (r : Row) → Stands rows (r .turn .0) s → restedBy T s r ≡ rested T rows r
-  rested-by r stands = rw (waiting-by r stands)
-
-  pub swept-by : (r : Row) → Stands rows (r .turn .0) s → sweptBy T s r ≡ swept T rows r
-  swept-by r stands =
-      ap (restedBy T s) (granted-by r stands)
-      ∙ rested-by (granted rows r)
-      (subst (λ (x : Row). Stands rows (x .turn .0) s) (sym (granted-keeps rows r)) stands)
-
-pub woke-by :
-    (T : ℕ) (before after : List Row) (j : ℕ) (s t : Standing) →
-    Stands before (rowOf before j .turn .0) s → Stands after (rowOf after j .turn .0) t →
-    wokeBy T s (rowOf before j) t (rowOf after j) ≡ woke T before after j
-woke-by T before after j s t p q =
-    λ i. waiting-by T before s (rowOf before j) p i && not (waiting-by T after t (rowOf after j) q i)
-
--- what is known of the rows is known of them after the sweep
-pub surveyed-settled : (T : ℕ) (rows : List Row) (k : Survey) → Surveyed rows k → Surveyed (settled T rows) k
-surveyed-settled T rows k known = record { each = each; apart = known .apart ∙ sym (distinct-settled T rows) }
-  where
-    each : (j : ℕ) → j < jobs → Stands (settled T rows) (rowOf (settled T rows) j .turn .0) (getD (k .standings) j unknown)
-    each j h = rw (turn-settled T rows j)
-        (record {
-          before = known .each j h .before ∙ sym (ahead-settled T rows (rowOf rows j .turn .0));
-          forbids = λ x. known .each j h .forbids x ∙ ap (ltb 0) (sym (in-way-settled T rows (rowOf rows j .turn .0) x));
-        })

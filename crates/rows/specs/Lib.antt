@@ -2,9 +2,14 @@
 pub mod InLine
 pub mod InWay
 pub mod Known
+pub mod KnownLaws
 pub mod Line
+pub mod LineInCode
+pub mod LineLaws
 pub mod Marks
 pub mod Order
+pub mod OrderLaws
 pub mod Stand
 pub mod Sweep
+pub mod SweepLaws
 pub mod Turns

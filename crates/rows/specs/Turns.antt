@@ -13,8 +13,10 @@ use lib.ListN.{length, set, List·getD-eq-default}
 use lib.Seq.{getD-set-same, getD-set-other}
 use Rattle.laws.specs.Bools.{bit}
 use Rattle.laws.specs.Counts.{all-each, count-at, count-some, each-all}
-use Rattle.laws.specs.Lists.{count, count-set}
-use Rattle.laws.specs.Reads.{Reads, reading}
+use Rattle.laws.specs.Lists.{count}
+use Rattle.laws.specs.ListLaws.{count-set}
+use Rattle.laws.specs.Reads.{Reads}
+use Rattle.laws.specs.ReadsLaws.{reading}
 use Rattle.rows.specs.Line.{rowOf}
 use Rattle.rows.specs.Order.{ahead, alone, bears, distinct, earlier, idle, live, waiting}
 use Rattle.rows.specs.declared.row.Row.{Row}

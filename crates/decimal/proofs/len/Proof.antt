@@ -3,7 +3,8 @@ use Prim.Native.Nat.{_+_}
 use mathlib.Core.Path.{_≡_}
 use native.Mathlib.Omega.{arith}
 use lib.ListN.{length}
-use Rattle.decimal.specs.Text.{text, length-text-small, length-text-large, length-text-pos, length-text-u64}
+use Rattle.decimal.specs.Text.{text}
+use Rattle.decimal.specs.TextLaws.{length-text-small, length-text-large, length-text-pos, length-text-u64}
 use Rattle.decimal.proofs.len.Statement.{statement}
 use Rattle.decimal.proofs.len.Tie as tie
 

@@ -8,7 +8,8 @@ use native.Mathlib.Omega.{arith}
 use lib.ListN.{getD, length, set, take, length-set}
 use lib.Seq.{take-all, take-suc}
 use borrow.Author.Needs.{needs}
-use Rattle.laws.specs.Front.{Wrote, then, wrote-none, wrote-one}
+use Rattle.laws.specs.Front.{Wrote}
+use Rattle.laws.specs.FrontLaws.{then, wrote-none, wrote-one}
 use Rattle.decimal.proofs.put.Statement.{statement}
 use Rattle.decimal.proofs.put.Tie as tie
 

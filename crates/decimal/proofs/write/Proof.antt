@@ -5,8 +5,10 @@ use mathlib.Core.Path.{_≡_, refl, _∙_}
 use native.Mathlib.Omega.{arith}
 use lib.ListN.{length, set, length-set}
 use borrow.Author.Needs.{needs}
-use Rattle.laws.specs.Front.{laid, laid-last, laid-one}
-use Rattle.decimal.specs.Text.{text, text-small, text-large, length-text-small, length-text-large, length-text-pos}
+use Rattle.laws.specs.Front.{laid}
+use Rattle.laws.specs.FrontLaws.{laid-last, laid-one}
+use Rattle.decimal.specs.Text.{text}
+use Rattle.decimal.specs.TextLaws.{text-small, text-large, length-text-small, length-text-large, length-text-pos}
 use Rattle.decimal.proofs.write.Statement.{statement}
 use Rattle.decimal.proofs.write.Tie as tie
 

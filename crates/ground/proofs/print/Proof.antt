@@ -3,7 +3,7 @@ use borrow.Author.Needs.{needs}
 use mathlib.Core.Path.{sym}
 use native.Mathlib.Omega.{arith}
 use lib.Seq.{length-take-le}
-use Rattle.decimal.specs.Text.{length-text-u64}
+use Rattle.decimal.specs.TextLaws.{length-text-u64}
 use Rattle.ground.proofs.print.Statement.{statement}
 use Rattle.ground.proofs.print.Tie as tie
 

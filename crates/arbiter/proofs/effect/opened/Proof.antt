@@ -2,7 +2,7 @@
 use Prim.Native.Nat.{ℕ, _+_}
 use mathlib.Core.Path.{_≡_, sym, subst, _∙_}
 use borrow.Author.Needs.{needs}
-use Rattle.rows.specs.Known.{token-by}
+use Rattle.rows.specs.KnownLaws.{token-by}
 use Rattle.rows.specs.Order.{token}
 use Rattle.rows.specs.Stand.{Stands}
 use Rattle.arbiter.proofs.effect.opened.Statement.{statement}

@@ -2,7 +2,7 @@
 use mathlib.Core.Path.{_∙_}
 use borrow.Author.Needs.{needs}
 use lib.ListN.{getD}
-use Rattle.rows.specs.Known.{token-by, waiting-by}
+use Rattle.rows.specs.KnownLaws.{token-by, waiting-by}
 use Rattle.rows.specs.Line.{rowOf}
 use Rattle.rows.specs.Stand.{unknown}
 use Rattle.arbiter.proofs.effect.reported.Statement.{statement}

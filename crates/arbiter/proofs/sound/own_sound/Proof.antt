@@ -1,6 +1,6 @@
 -- The tests are the conditions, joined in their order.
 use mathlib.Core.Bool.{and-true}
-use Rattle.laws.specs.Bools.{not-ltb}
+use Rattle.laws.specs.BoolLaws.{not-ltb}
 use Rattle.laws.specs.Lists.{all}
 use borrow.Author.Needs.{needs}
 use Rattle.arbiter.proofs.sound.own_sound.Statement.{statement}

@@ -3,7 +3,7 @@ use mathlib.Core.Bool.{Bool, cond, _&&_}
 use mathlib.Core.List.{_++_}
 use mathlib.Core.Path.{sym, ap, ap₂, _∙_}
 use borrow.Author.Tests.{not-true, not-false}
-use Rattle.laws.specs.Lists.{all-append}
+use Rattle.laws.specs.ListLaws.{all-append}
 use Rattle.laws.specs.Sets.{meets}
 use Rattle.arbiter.specs.Sound.{claimConditions, holds, idleRow, ownConditions}
 use borrow.Author.Needs.{needs}

@@ -7,7 +7,8 @@ use mathlib.Core.Path.{_≡_, refl, sym, ap₂, fun-ext, _∙_}
 use borrow.Author.Tests.{not-true, not-false}
 use native.Mathlib.Omega.{arith}
 use lib.ListN.{drop, drop-of-length-le, getD, length}
-use Rattle.laws.specs.Lists.{all, all-drop}
+use Rattle.laws.specs.Lists.{all}
+use Rattle.laws.specs.ListLaws.{all-drop}
 use Rattle.laws.specs.Sets.{meets}
 use Rattle.rows.specs.Order.{ahead, blocked, idle, jobs}
 use Rattle.rows.specs.Stand.{Stands}

@@ -1,6 +1,7 @@
 -- The cases of a job that acts, then those of the set.
 use mathlib.Core.Path.{refl}
-use Rattle.laws.specs.Cases.{ascends, outcome-back, outcome-front}
+use Rattle.laws.specs.Cases.{ascends}
+use Rattle.laws.specs.CaseLaws.{outcome-back, outcome-front}
 use Rattle.arbiter.proofs.Verdicts.{judged}
 use Rattle.arbiter.specs.Refusals.{actCases, setCases}
 use borrow.Author.Needs.{needs}

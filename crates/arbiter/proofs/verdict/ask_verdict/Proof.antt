@@ -1,6 +1,7 @@
 -- The cases that an ask shares with a release, then those of its members.
 use mathlib.Core.Path.{refl}
-use Rattle.laws.specs.Cases.{ascends, case, outcome-back, outcome-front}
+use Rattle.laws.specs.Cases.{ascends, case}
+use Rattle.laws.specs.CaseLaws.{outcome-back, outcome-front}
 use Rattle.rows.specs.Line.{rowOf}
 use Rattle.rows.specs.Order.{jobs}
 use Rattle.arbiter.proofs.Verdicts.{has-row, judged}

@@ -1,6 +1,7 @@
 -- Case 7, then the cases of the set, then that of the turn.
 use mathlib.Core.Path.{refl, sym, _∙_}
-use Rattle.laws.specs.Cases.{ascends, outcome-back, outcome-front, outcome-is, outcome-past, this}
+use Rattle.laws.specs.Cases.{ascends}
+use Rattle.laws.specs.CaseLaws.{outcome-back, outcome-front, outcome-is, outcome-past, this}
 use Rattle.arbiter.proofs.Verdicts.{judged}
 use Rattle.arbiter.specs.Refusals.{setCases, turnCases}
 use borrow.Author.Needs.{needs}

@@ -1,6 +1,7 @@
 -- The cases of the entry, then those of the opening.
 use mathlib.Core.Path.{refl}
-use Rattle.laws.specs.Cases.{ascends, case, outcome-back, outcome-front}
+use Rattle.laws.specs.Cases.{ascends, case}
+use Rattle.laws.specs.CaseLaws.{outcome-back, outcome-front}
 use Rattle.arbiter.proofs.Verdicts.{has-row, judged}
 use Rattle.arbiter.specs.Refusals.{entryCases, openCases}
 use borrow.Author.Needs.{needs}

@@ -1,7 +1,7 @@
 -- The live requests, the tokens in use and the line's end.
 use native.Mathlib.Omega.{arith}
-use Rattle.decimal.specs.Text.{length-text}
-use Rattle.laws.specs.Front.{then, wrote-length}
+use Rattle.decimal.specs.TextLaws.{length-text}
+use Rattle.laws.specs.FrontLaws.{then, wrote-length}
 use Rattle.listing.specs.Listing.{endLine}
 use borrow.Author.Needs.{needs}
 use Rattle.listing.proofs.writing.put_end.Statement.{statement}

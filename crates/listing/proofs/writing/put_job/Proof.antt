@@ -1,6 +1,6 @@
 -- A space and at most three digits.
 use native.Mathlib.Omega.{arith}
-use Rattle.decimal.specs.Text.{length-text}
+use Rattle.decimal.specs.TextLaws.{length-text}
 use borrow.Author.Needs.{needs}
 use Rattle.listing.proofs.writing.put_job.Statement.{statement}
 use Rattle.listing.proofs.writing.put_job.Tie as tie

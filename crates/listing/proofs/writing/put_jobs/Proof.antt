@@ -3,7 +3,8 @@ use Prim.Native.Nat.{ℕ, _+_, _-_, _*_, _≤_}
 use mathlib.Core.Path.{_≡_, refl, subst, _∙_}
 use native.Mathlib.Omega.{arith}
 use lib.ListN.{length, take}
-use Rattle.laws.specs.Front.{Wrote, then, wrote-length, wrote-none}
+use Rattle.laws.specs.Front.{Wrote}
+use Rattle.laws.specs.FrontLaws.{then, wrote-length, wrote-none}
 use Rattle.listing.specs.Listing.{items}
 use Rattle.listing.specs.Lengths.{items-more}
 use borrow.Author.Needs.{needs}

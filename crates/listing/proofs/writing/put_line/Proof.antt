@@ -1,7 +1,7 @@
 -- The number, the word and the line's end.
 use native.Mathlib.Omega.{arith}
-use Rattle.decimal.specs.Text.{length-text-u64}
-use Rattle.laws.specs.Front.{then, wrote-length}
+use Rattle.decimal.specs.TextLaws.{length-text-u64}
+use Rattle.laws.specs.FrontLaws.{then, wrote-length}
 use Rattle.listing.specs.Listing.{line}
 use borrow.Author.Needs.{needs}
 use Rattle.listing.proofs.writing.put_line.Statement.{statement}

@@ -1,6 +1,6 @@
 -- The word, and the digits behind it.
 use native.Mathlib.Omega.{arith}
-use Rattle.laws.specs.Front.{then, wrote-length}
+use Rattle.laws.specs.FrontLaws.{then, wrote-length}
 use borrow.Author.Needs.{needs}
 use Rattle.listing.proofs.writing.put_number.Statement.{statement}
 use Rattle.listing.proofs.writing.put_number.Tie as tie

@@ -4,7 +4,7 @@ use mathlib.Core.Path.{_≡_, refl}
 use native.Mathlib.Omega.{arith}
 use lib.ListN.{length}
 use borrow.Author.Needs.{needs}
-use Rattle.laws.specs.Lists.{Filled, filled-more}
+use Rattle.laws.specs.ListLaws.{Filled, filled-more}
 use Rattle.rows.specs.Order.{idle, jobs}
 use Rattle.probe.specs.Layout.{rowAt}
 use Rattle.probe.proofs.layout.rows_of.Statement.{statement}

@@ -6,7 +6,8 @@ use mathlib.Core.Path.{_≡_, refl, sym, _∙_}
 use borrow.Author.Needs.{needs}
 use borrow.Author.Tests.{not-false, not-true}
 use lib.ListN.{drop, drop-of-length-le, length}
-use Rattle.laws.specs.Lists.{all, all-drop}
+use Rattle.laws.specs.Lists.{all}
+use Rattle.laws.specs.ListLaws.{all-drop}
 use Rattle.rows.specs.Line.{rowOf}
 use Rattle.rows.specs.Order.{alone, distinct, idle, jobs}
 use Rattle.rows.specs.declared.row.Row.{Row}

@@ -2,7 +2,7 @@
 use Prim.Native.Nat.{_≤_, _-_}
 use native.Mathlib.Omega.{arith}
 use borrow.Author.Needs.{needs}
-use Rattle.laws.specs.Lists.{passed-le}
+use Rattle.laws.specs.ListLaws.{passed-le}
 use Rattle.rows.proofs.Seen.{Seen, all-seen, more-seen, none-seen}
 use Rattle.rows.specs.Order.{earlier, jobs}
 use Rattle.rows.proofs.scan.standing.Statement.{statement}

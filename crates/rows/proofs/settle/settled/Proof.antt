@@ -6,12 +6,13 @@ use native.Mathlib.Omega.{arith}
 use borrow.Author.Needs.{needs}
 use lib.ListN.{getD, length}
 use lib.Seq.{ext-getD}
-use Rattle.laws.specs.Lists.{Filled, filled-more}
-use Rattle.rows.specs.Known.{swept-by}
+use Rattle.laws.specs.ListLaws.{Filled, filled-more}
+use Rattle.rows.specs.KnownLaws.{swept-by}
 use Rattle.rows.specs.Line.{rowOf}
 use Rattle.rows.specs.Order.{idle, jobs}
 use Rattle.rows.specs.Stand.{unknown}
-use Rattle.rows.specs.Sweep.{length-settled, row-settled, settled, swept}
+use Rattle.rows.specs.SweepLaws.{length-settled, row-settled}
+use Rattle.rows.specs.Sweep.{settled, swept}
 use Rattle.rows.specs.declared.row.Row.{Row}
 use Rattle.rows.proofs.settle.settled.Statement.{statement}
 use Rattle.rows.proofs.settle.settled.Tie as tie

@@ -6,8 +6,8 @@ use mathlib.Core.Path.{_≡_, refl, _∙_}
 use native.Mathlib.Omega.{arith}
 use borrow.Author.Needs.{needs}
 use lib.ListN.{getD, length}
-use Rattle.laws.specs.Lists.{Filled, filled-more}
-use Rattle.rows.specs.Known.{woke-by}
+use Rattle.laws.specs.ListLaws.{Filled, filled-more}
+use Rattle.rows.specs.KnownLaws.{woke-by}
 use Rattle.rows.specs.Order.{jobs}
 use Rattle.rows.specs.Stand.{unknown}
 use Rattle.rows.specs.Sweep.{woke}

@@ -7,8 +7,9 @@ use native.Mathlib.Omega.{arith}
 use lib.ListN.{length, take, drop}
 use lib.Seq.{length-take-le, take-at}
 use borrow.Author.Needs.{needs}
-use Rattle.laws.specs.Front.{Wrote, laid-front, over}
-use Rattle.decimal.specs.Text.{length-text-u64}
+use Rattle.laws.specs.Front.{Wrote, over}
+use Rattle.laws.specs.FrontLaws.{laid-front}
+use Rattle.decimal.specs.TextLaws.{length-text-u64}
 use Rattle.stream.proofs.print.number.Statement.{statement}
 use Rattle.stream.proofs.print.number.Tie as tie
 

@@ -3,7 +3,8 @@ use Prim.Native.Nat.{ℕ}
 use mathlib.Core.Path.{refl, _∙_}
 use borrow.Author.Tests.{le-ltb, lt-ltb}
 use Rattle.event.specs.declared.said.Event.the-variants.{Complete}
-use Rattle.laws.specs.Cases.{ascends, case, outcome-is, outcome-past, this}
+use Rattle.laws.specs.Cases.{ascends, case}
+use Rattle.laws.specs.CaseLaws.{outcome-is, outcome-past, this}
 use Rattle.arbiter.proofs.Answering.{accepted-answers-into, refused-answers-into}
 use Rattle.arbiter.proofs.Verdicts.{has-row, judged}
 use Rattle.arbiter.specs.Meaning.{completedRows, moved, timeAt}

@@ -1,5 +1,5 @@
 -- A refused verdict leaves the table; an accepted one does what the event means.
-use Prim.Native.Nat.{ℕ}
+use Prim.Native.Nat.{ℕ, _+_}
 use mathlib.Core.Path.{refl}
 use Rattle.event.specs.declared.said.Event.the-variants.{Open}
 use Rattle.laws.specs.Cases.{ascends, case}
@@ -9,7 +9,6 @@ use Rattle.arbiter.proofs.Verdicts.{has-row, judged, last-in-range}
 use Rattle.arbiter.specs.Meaning.{moved, openedRow, timeAt}
 use Rattle.arbiter.specs.Refusals.{cases}
 use lib.ListN.{set}
-use Prim.Native.Nat.{_+_}
 use borrow.Author.Needs.{needs}
 use Rattle.arbiter.proofs.table.Table.open.Statement.{statement}
 use Rattle.arbiter.proofs.table.Table.open.Tie as tie

@@ -6,9 +6,10 @@ use borrow.Author.Tests.{le-ltb, lt-ltb}
 use lib.ListN.{length}
 use Rattle.event.specs.Refusals.{numberOf}
 use Rattle.event.specs.declared.refusal.Refusal.{Refusal}
-use Rattle.laws.specs.Cases.{acceptance-tells, fine, leaves, outcome, outcome-is, outcome-past, refusal-tells, refused, this}
+use Rattle.laws.specs.CaseLaws.{acceptance-tells, outcome-is, outcome-past, refusal-tells, this}
+use Rattle.laws.specs.Cases.{fine, leaves, outcome, refused}
 use Rattle.laws.specs.Front.{over}
-use Rattle.rows.specs.Line.{Listed}
+use Rattle.rows.specs.LineInCode.{Listed}
 use Rattle.arbiter.proofs.Verdicts.{judged}
 use Rattle.arbiter.specs.Meaning.{late, lateAt, overdue, overdueList, timeAt}
 use Rattle.arbiter.specs.Promises.{ToldLate}
