@@ -4,7 +4,7 @@ use mathlib.Core.List.{List}
 use mathlib.Core.Path.{_≡_, sym, ap, _∙_}
 use Rattle.event.specs.Refusals.{numberOf}
 use Rattle.event.specs.declared.refusal.Refusal.{Refusal}
-use Rattle.event.specs.declared.said.Event.{Event}
+use Rattle.event.specs.declared.events.Event.{Event}
 use Rattle.laws.specs.CaseLaws.{acceptance-tells, refusal-tells}
 use Rattle.laws.specs.Cases.{fine, outcome, refused}
 use Rattle.laws.specs.Front.{over}

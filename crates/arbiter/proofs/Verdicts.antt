@@ -12,7 +12,8 @@ use Rattle.laws.specs.Cases.{Case, Outcome, ascending, case, fine, outcome}
 use Rattle.laws.specs.CaseLaws.{acceptance-tells, clear}
 use Rattle.laws.specs.BoolLaws.{and-left, and-right}
 use Rattle.laws.specs.Lists.{all}
-use Rattle.rows.specs.Order.{distinct, jobs}
+use Rattle.event.specs.Limits.{jobs}
+use Rattle.rows.specs.Order.{distinct}
 use Rattle.arbiter.specs.Sound.{counters, holds, ranges, sound, soundRow}
 use Rattle.arbiter.specs.declared.table.Table.{Table}
 

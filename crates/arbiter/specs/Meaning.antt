@@ -5,14 +5,15 @@ use mathlib.Core.List.{List, [], _∷_}
 use lib.Dec.{leb}
 use lib.ListN.{length, replicate, set}
 use Rattle.event.specs.Clock.{difference}
-use Rattle.event.specs.declared.said.Event.{Event}
-use Rattle.event.specs.declared.said.Event.the-variants.{Beat, Open, Ask, Release, Complete}
+use Rattle.event.specs.declared.events.Event.{Event}
+use Rattle.event.specs.declared.events.Event.the-variants.{Beat, Open, Ask, Release, Complete}
 use Rattle.laws.specs.Cases.{Outcome, leaves, outcome}
 use Rattle.laws.specs.Front.{over}
 use Rattle.laws.specs.Sets.{union, without}
 use Rattle.rows.specs.Known.{waitingBy}
 use Rattle.rows.specs.Line.{keep, line, rowOf}
-use Rattle.rows.specs.Order.{ahead, blocked, idle, inWay, jobs, token, waiting}
+use Rattle.event.specs.Limits.{jobs}
+use Rattle.rows.specs.Order.{ahead, blocked, idle, inWay, token, waiting}
 use Rattle.rows.specs.Sweep.{settled, woken}
 use Rattle.rows.specs.declared.row.Row.{Row}
 use Rattle.rows.specs.declared.stand.Standing.{Standing}

@@ -5,7 +5,7 @@ use mathlib.Core.Path.{_≡_}
 use lib.ListN.{length}
 use Rattle.event.specs.Refusals.{numberOf}
 use Rattle.event.specs.declared.refusal.Refusal.{Refusal}
-use Rattle.event.specs.declared.said.Event.{Event}
+use Rattle.event.specs.declared.events.Event.{Event}
 use Rattle.laws.specs.Cases.{fine, refused}
 use Rattle.laws.specs.Front.{over}
 use Rattle.rows.specs.Sweep.{woken}

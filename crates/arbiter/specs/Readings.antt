@@ -9,7 +9,7 @@ use borrow.Author.Tests.{eqb-false, eqb-true, le-leb, leb-true, lt-ltb, ltb-fals
 use lib.Dec.{eqb}
 use lib.ListN.{getD}
 use Rattle.event.specs.declared.clock.Tick.{Tick}
-use Rattle.event.specs.declared.said.Event.the-variants.{Ask, Release}
+use Rattle.event.specs.declared.events.Event.the-variants.{Ask, Release}
 use Rattle.laws.specs.Cases.{case}
 use Rattle.laws.specs.Counts.{all-each}
 use Rattle.laws.specs.Lists.{all}

@@ -4,12 +4,13 @@ use mathlib.Core.Bool.{not}
 use mathlib.Core.List.{List, [], _∷_, _++_}
 use lib.Dec.{eqb, leb, ltb}
 use Rattle.event.specs.Clock.{clockCases}
-use Rattle.event.specs.declared.said.Event.{Event}
-use Rattle.event.specs.declared.said.Event.the-variants.{Beat, Open, Ask, Release, Complete}
+use Rattle.event.specs.declared.events.Event.{Event}
+use Rattle.event.specs.declared.events.Event.the-variants.{Beat, Open, Ask, Release, Complete}
 use Rattle.laws.specs.Cases.{Case, when}
 use Rattle.laws.specs.Sets.{below, inside, meets}
 use Rattle.rows.specs.Line.{rowOf}
-use Rattle.rows.specs.Order.{jobs, live, token}
+use Rattle.event.specs.Limits.{jobs}
+use Rattle.rows.specs.Order.{live, token}
 use Rattle.rows.specs.declared.row.Row.{Row}
 use Rattle.arbiter.specs.Sound.{holds, ranges, sound}
 use Rattle.arbiter.specs.declared.table.Table.{Table}

@@ -1,6 +1,6 @@
 // The calls: start, the five events and the two questions. An event takes the table by value and returns the next.
-ghost use Rattle.event.specs.declared.said.Event.the-variants.{Ask, Beat, Complete, Open, Release};
-ghost use Rattle.rows.specs.Order.{jobs};
+ghost use Rattle.event.specs.declared.events.Event.the-variants.{Ask, Beat, Complete, Open, Release};
+ghost use Rattle.event.specs.Limits.{jobs};
 ghost use Rattle.arbiter.specs.Promises.{Answered, AnsweredInto, Refuses, Reports, Started, ToldLate};
 use crate::effect::asked;
 use crate::effect::completed;
@@ -22,10 +22,10 @@ use crate::verdict::clock_verdict;
 use crate::verdict::open_verdict;
 use crate::verdict::release_verdict;
 use event::Event;
+use event::JOBS;
 use event::Moment;
 use event::Refusal;
 use event::Tick;
-use rows::JOBS;
 use rows::Turn;
 use rows::idle;
 use rows::live;

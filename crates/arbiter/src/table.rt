@@ -1,6 +1,6 @@
 // The table, and what the calls on it answer. What firmware holds is laid out as in C (`repr(C)`).
+use event::JOBS;
 use event::Refusal;
-use rows::JOBS;
 use rows::Row;
 use rows::Turn;
 

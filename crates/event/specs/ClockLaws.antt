@@ -6,9 +6,8 @@ use native.Mathlib.Omega.{arith}
 use borrow.Author.Tests.{le-ltb, lt-leb}
 use Rattle.laws.specs.Cases.{fine}
 use Rattle.laws.specs.CaseLaws.{outcome-is, acceptance-tells, none, past}
+use Rattle.event.specs.Limits.{highest}
 use Rattle.event.specs.Clock.{difference, clockCases, forward, forwards, Often, ended, then}
-
--- ---- True time is real time, wraps and all
 
 -- the low 32 bits of an accepted time are the tick that gave it
 pub forward-low : (time tick n : ℕ) → tick < 2 ^ 32 → forward time tick ≡ fine n → n % 2 ^ 32 ≡ tick
@@ -19,13 +18,13 @@ forward-low time tick n h e =
 
 -- the tick of a real time that is at most 2^31-1 ms on gives that time
 pub forward-real :
-    (time n : ℕ) → time ≤ n → n ≤ time + (2 ^ 31 - 1) → n ≤ 2 ^ 63 - 1 → forward time (n % 2 ^ 32) ≡ fine n
+    (time n : ℕ) → time ≤ n → n ≤ time + (2 ^ 31 - 1) → n ≤ highest → forward time (n % 2 ^ 32) ≡ fine n
 unfolding forward
 forward-real time n low near last =
     let ahead : difference time (n % 2 ^ 32) ≡ n - time = omega arith in
     let sum : time + difference time (n % 2 ^ 32) ≡ n = omega arith in
     let forth = lt-leb (2 ^ 31) (difference time (n % 2 ^ 32)) (omega arith) in
-    let within = le-ltb (2 ^ 63 - 1) (time + difference time (n % 2 ^ 32)) (omega arith) in
+    let within = le-ltb highest (time + difference time (n % 2 ^ 32)) (omega arith) in
     sym (outcome-is _ (past forth (past within none))) ∙ ap fine sum
 
 -- ticks taken often enough: true time is real time at each of them

@@ -1,5 +1,8 @@
--- What the contracts of this crate say, and the laws of true time.
+-- What the contracts of this crate say, and the laws of true time, refusals and events.
 pub mod Clock
 pub mod ClockLaws
+pub mod EventLaws
+pub mod Events
+pub mod Limits
 pub mod RefusalLaws
 pub mod Refusals

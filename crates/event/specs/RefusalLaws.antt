@@ -1,11 +1,16 @@
--- No two refusals share a number.
-use Prim.Native.Nat.{ℕ, _-_}
+-- No two refusals share a number, and what the cases of named refusals tell.
+use Prim.Native.Nat.{ℕ, zero, suc, _-_, _<_}
+use mathlib.Core.Bool.{Bool, true, false, cond, _||_, false≢true}
 use mathlib.Core.List.{List, [], _∷_}
 use mathlib.Core.Path.{_≡_, refl, sym, ap, _∙_}
+use native.Mathlib.Omega.{arith}
+use borrow.Author.Tests.{eqb-true, lt-ltb}
+use lib.Dec.{eqb}
 use lib.ListN.{getD}
+use Rattle.laws.specs.Cases.{first, positive}
 use Rattle.event.specs.declared.refusal.Refusal.{Refusal}
 use Rattle.event.specs.declared.refusal.Refusal.the-variants.{BadStart, ShortList, UnsoundTable, NoSuchJob, ClockGoneBack, TimeSpent, AlreadyLive, NotLive, NoToken, StillWaiting, EmptySet, NoSuchResource, NotDeclared, AlreadyHeld, NotHeld, TurnsSpent, WrongLength, UnknownKind, BitSet, StartOutOfPlace}
-use Rattle.event.specs.Refusals.{numberOf}
+use Rattle.event.specs.Refusals.{among, casesBy, numberOf}
 
 -- the refusals in the order of their numbers
 refusals : List Refusal
@@ -41,3 +46,48 @@ refusalOf-numberOf StartOutOfPlace = refl
 -- no two refusals share a number
 pub numberOf-tells : (r s : Refusal) → numberOf r ≡ numberOf s → r ≡ s
 numberOf-tells r s e = sym (refusalOf-numberOf r) ∙ ap refusalOf e ∙ refusalOf-numberOf s
+
+-- ---- Cases by name
+
+-- every number is positive: 0 would be that of the refusal numbered 1
+pub number-positive : (r : Refusal) → 0 < numberOf r
+unfolding refusals refusalOf
+number-positive r = go (numberOf r) refl
+  where
+    go : (n : ℕ) → numberOf r ≡ n → 0 < n
+    go zero e =
+        let is : r ≡ BadStart = sym (refusalOf-numberOf r) ∙ ap refusalOf e in
+        let one : numberOf r ≡ 1 = ap numberOf is in
+        absurd (omega (arith, one, e))
+    go (suc n) e = omega arith
+
+module _ (f : Refusal → Bool) where
+  pub cases-positive : (rs : List Refusal) → positive (casesBy f rs) ≡ true
+  cases-positive [] = refl
+  cases-positive (r ∷ rs) = rw (lt-ltb 0 (numberOf r) (number-positive r)) (cases-positive rs)
+
+  -- the first number is that of a refusal which applies
+  pub first-named : (rs : List Refusal) (r : Refusal) → first (casesBy f rs) ≡ numberOf r → f r ≡ true
+  unfolding first
+  first-named [] r e = absurd (omega (arith, number-positive r, e))
+  first-named (x ∷ rs) r e = go (f x) refl e (first-named rs r)
+    where
+      go :
+          (b : Bool) → f x ≡ b → cond b (numberOf x) (first (casesBy f rs)) ≡ numberOf r →
+          (first (casesBy f rs) ≡ numberOf r → f r ≡ true) → f r ≡ true
+      go true q e more = ap f (sym (numberOf-tells x r e)) ∙ q
+      go false q e more = more e
+
+  -- where there is no first, none of the refusals applies
+  pub clear-named : (rs : List Refusal) (r : Refusal) → among r rs ≡ true → first (casesBy f rs) ≡ 0 → f r ≡ false
+  unfolding first
+  clear-named [] r in-it e = absurd (false≢true in-it)
+  clear-named (x ∷ rs) r in-it e = go (f x) refl (eqb (numberOf x) (numberOf r)) refl in-it e (clear-named rs r)
+    where
+      go :
+          (b : Bool) → f x ≡ b → (c : Bool) → eqb (numberOf x) (numberOf r) ≡ c → (c || among r rs) ≡ true →
+          cond b (numberOf x) (first (casesBy f rs)) ≡ 0 →
+          (among r rs ≡ true → first (casesBy f rs) ≡ 0 → f r ≡ false) → f r ≡ false
+      go true q c p in-it e more = absurd (omega (arith, number-positive x, e))
+      go false q true p in-it e more = ap f (sym (numberOf-tells x r (eqb-true (numberOf x) (numberOf r) p))) ∙ q
+      go false q false p in-it e more = more in-it e

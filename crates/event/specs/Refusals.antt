@@ -1,5 +1,9 @@
--- The numbers that document 01 gives the refusals.
+-- The numbers that document 01 gives the refusals, and cases by the refusals' names.
 use Prim.Native.Nat.{ℕ}
+use mathlib.Core.Bool.{Bool, false, _||_}
+use mathlib.Core.List.{List, [], _∷_, map}
+use lib.Dec.{eqb}
+use Rattle.laws.specs.Cases.{Case, when}
 use Rattle.event.specs.declared.refusal.Refusal.{Refusal}
 use Rattle.event.specs.declared.refusal.Refusal.the-variants.{BadStart, ShortList, UnsoundTable, NoSuchJob, ClockGoneBack, TimeSpent, AlreadyLive, NotLive, NoToken, StillWaiting, EmptySet, NoSuchResource, NotDeclared, AlreadyHeld, NotHeld, TurnsSpent, WrongLength, UnknownKind, BitSet, StartOutOfPlace}
 
@@ -25,3 +29,16 @@ numberOf WrongLength = 17
 numberOf UnknownKind = 18
 numberOf BitSet = 19
 numberOf StartOutOfPlace = 20
+
+-- the case of a refusal, which applies when b is true
+abbrev pub refusing : Refusal → Bool → Case
+refusing r b = when (numberOf r) b
+
+-- the cases of these refusals, each of which applies when it passes the test
+abbrev pub casesBy : (Refusal → Bool) → List Refusal → List Case
+casesBy f rs = map (λ r. refusing r (f r)) rs
+
+-- r is one of these refusals
+abbrev pub among : Refusal → List Refusal → Bool
+among r [] = false
+among r (x ∷ rs) = eqb (numberOf x) (numberOf r) || among r rs

@@ -1,6 +1,7 @@
 // Ticks, and the true time that they tell.
 ghost use mathlib.Core.Path.{_≡_};
 ghost use Rattle.event.specs.Clock.{forward, momentOf};
+use crate::limits::HIGHEST;
 use crate::refusal::Refusal;
 
 // Ticks start again from 0 after 2^32 - 1.
@@ -8,9 +9,6 @@ const WRAP: u64 = 4_294_967_296;
 
 // From this difference on the clock has gone back: 2^31.
 const GONE_BACK: u64 = 2_147_483_648;
-
-// The last true time, 2^63 - 1.
-const LAST: u64 = 9_223_372_036_854_775_807;
 
 // The drive's millisecond counter. A type of its own, so that no turn can stand in its place.
 #[repr(C)]
@@ -28,7 +26,7 @@ pub fn forward(time: u64, tick: Tick) -> Moment
 {
     let low = time % WRAP;
     let difference = (tick.0 as u64 + WRAP - low) % WRAP;
-    let room = LAST - difference;
+    let room = HIGHEST - difference;
     if GONE_BACK <= difference {
         return Moment::No(Refusal::ClockGoneBack);
     }

@@ -8,7 +8,7 @@ use native.Mathlib.Omega.{arith}
 use borrow.Author.Tests.{ltb-true, eqb-true, eq-eqb, ne-eqb}
 use lib.Dec.{ltb, eqb}
 use Rattle.laws.specs.BoolLaws.{and-left, and-right}
-use Rattle.laws.specs.Cases.{Case, when, first, ascends, ascending, case, Outcome, refused, fine, unless, outcome, keepUnless, leaves}
+use Rattle.laws.specs.Cases.{Case, when, first, ascends, case, Outcome, refused, fine, unless, outcome, keepUnless, leaves, positive}
 
 -- ---- The first, step by step: what a chain of tests has found
 
@@ -137,28 +137,37 @@ first-applies k (c ∷ cs) up h = go (c .applies) refl h (first-applies (c .numb
         let later : c .number < first cs = case-above (c .number) (first cs) cs (rest-ascends k c cs up) (ih h) in
         rw (ne-eqb (c .number) (first cs) (λ e. omega (arith, e, later))) (ih h)
 
+-- ---- Where numbers are positive, no first means that no case applies
+
+module _ (c : Case) (cs : List Case) (some : positive (c ∷ cs) ≡ true) where
+  head-positive : 0 < c .number
+  head-positive = ltb-true 0 (c .number) (and-left (ltb 0 (c .number)) (positive cs) some)
+
+  rest-positive : positive cs ≡ true
+  rest-positive = and-right (ltb 0 (c .number)) (positive cs) some
+
 -- where there is no first, no case applies
-pub clear : (k n : ℕ) (cs : List Case) → ascends k cs ≡ true → first cs ≡ 0 → case n cs ≡ false
+pub clear : (n : ℕ) (cs : List Case) → positive cs ≡ true → first cs ≡ 0 → case n cs ≡ false
 unfolding case first
-clear k n [] up e = refl
-clear k n (c ∷ cs) up e = go (c .applies) (eqb (c .number) n) e (clear (c .number) n cs (rest-ascends k c cs up))
+clear n [] some e = refl
+clear n (c ∷ cs) some e = go (c .applies) (eqb (c .number) n) e (clear n cs (rest-positive c cs some))
   where
     go :
         (a b : Bool) → cond a (c .number) (first cs) ≡ 0 → (first cs ≡ 0 → case n cs ≡ false) → cond b a (case n cs) ≡ false
-    go true b q ih = absurd (omega (arith, head-above k c cs up, q))
+    go true b q ih = absurd (omega (arith, head-positive c cs some, q))
     go false true q ih = refl
     go false false q ih = ih q
 
 -- what a first part does not find is what the rest finds
-pub first-back : (k : ℕ) (cs ds : List Case) → ascends k cs ≡ true → first cs ≡ 0 → first (cs ++ ds) ≡ first ds
+pub first-back : (cs ds : List Case) → positive cs ≡ true → first cs ≡ 0 → first (cs ++ ds) ≡ first ds
 unfolding first
-first-back k [] ds up e = refl
-first-back k (c ∷ cs) ds up e = go (c .applies) e (first-back (c .number) cs ds (rest-ascends k c cs up))
+first-back [] ds some e = refl
+first-back (c ∷ cs) ds some e = go (c .applies) e (first-back cs ds (rest-positive c cs some))
   where
     go :
         (a : Bool) → cond a (c .number) (first cs) ≡ 0 → (first cs ≡ 0 → first (cs ++ ds) ≡ first ds) →
         cond a (c .number) (first (cs ++ ds)) ≡ first ds
-    go true q ih = absurd (omega (arith, head-above k c cs up, q))
+    go true q ih = absurd (omega (arith, head-positive c cs some, q))
     go false q ih = ih q
 
 -- a refusal by a first part is the whole list's
@@ -173,11 +182,11 @@ outcome-front {A} k cs ds a e = go (first cs) refl e
 
 -- what a first part accepts is judged by the rest
 pub outcome-back :
-    {A : Type 0} (cs ds : List Case) (a x : A) (o : Outcome A) → ascending cs ≡ true → fine x ≡ outcome cs a →
+    {A : Type 0} (cs ds : List Case) (a x : A) (o : Outcome A) → positive cs ≡ true → fine x ≡ outcome cs a →
     o ≡ outcome ds x → o ≡ outcome (cs ++ ds) a
 unfolding outcome
-outcome-back {A} cs ds a x o up e r = go (first cs) refl e
+outcome-back {A} cs ds a x o some e r = go (first cs) refl e
   where
     go : (n : ℕ) → first cs ≡ n → fine x ≡ unless n a → o ≡ unless (first (cs ++ ds)) a
-    go zero q e = let same : x ≡ a = cc in r ∙ rw (first-back 0 cs ds up q, same)
+    go zero q e = let same : x ≡ a = cc in r ∙ rw (first-back cs ds some q, same)
     go (suc n) q e = let z : _≡_ {A = ℕ} 0 1 = cc in absurd (omega arith)

@@ -29,6 +29,11 @@ ascends k (c ∷ cs) = ltb k (c .number) && ascends (c .number) cs
 abbrev pub ascending : List Case → Bool
 ascending cs = ascends 0 cs
 
+-- every number is positive, so that 0 stands for no case
+abbrev pub positive : List Case → Bool
+positive [] = true
+positive (c ∷ cs) = ltb 0 (c .number) && positive cs
+
 -- whether the case numbered n applies; of two so numbered the earlier
 unfoldable pub case : ℕ → List Case → Bool
 case n [] = false

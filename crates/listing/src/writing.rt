@@ -11,7 +11,7 @@ ghost use Rattle.listing.specs.Promises.{lineRoom, told, wordRoom};
 use arbiter::Answer;
 use arbiter::Table;
 use decimal::put;
-use rows::JOBS;
+use event::JOBS;
 use rows::live_count;
 
 // Puts a word and a number behind it.

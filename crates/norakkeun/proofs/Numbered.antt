@@ -1,7 +1,7 @@
 -- From a call's own promise to the same in numbers.
 use Prim.Native.Nat.{ℕ}
 use mathlib.Core.Path.{_≡_, _∙_}
-use Rattle.event.specs.declared.said.Event.{Event}
+use Rattle.event.specs.declared.events.Event.{Event}
 use Rattle.arbiter.specs.Answers.{saidOf}
 use Rattle.arbiter.specs.Promises.{Answered}
 use Rattle.arbiter.specs.declared.table.Next.{Next}

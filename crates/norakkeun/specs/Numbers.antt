@@ -3,8 +3,8 @@ use Prim.Native.Nat.{ℕ}
 use mathlib.Core.Bool.{false}
 use mathlib.Core.List.{List}
 use mathlib.Core.Path.{_≡_}
-use Rattle.event.specs.declared.said.Entry.{Entry}
-use Rattle.event.specs.declared.said.Event.{Event}
+use Rattle.event.specs.declared.events.Entry.{Entry}
+use Rattle.event.specs.declared.events.Event.{Event}
 use Rattle.laws.specs.Cases.{Outcome, fine, refused}
 use Rattle.record.specs.Format.{left, wrote}
 use Rattle.arbiter.specs.Answers.{Said, done, granted, token, wait, woke}

@@ -1,8 +1,8 @@
 // The calls on a table. Each takes the table by value and hands the next one back, as document 01 wants it.
 ghost use mathlib.Core.Path.{_≡_};
 ghost use lib.ListN.{length};
-ghost use Rattle.event.specs.declared.said.Event.the-variants.{Ask, Beat, Complete, Open, Release};
-ghost use Rattle.rows.specs.Order.{jobs};
+ghost use Rattle.event.specs.declared.events.Event.the-variants.{Ask, Beat, Complete, Open, Release};
+ghost use Rattle.event.specs.Limits.{jobs};
 ghost use Rattle.arbiter.specs.Meaning.{listed, overdue, overdueList, report, startAnswer, startTable};
 ghost use Rattle.norakkeun.specs.Numbers.{eventInNumbers, eventTold, lateInNumbers, reportInNumbers};
 use crate::told::JobReport;

@@ -6,12 +6,13 @@ use mathlib.Core.Path.{_≡_}
 use lib.Dec.{eqb}
 use lib.ListN.{getD}
 use Rattle.arbiter.specs.declared.table.Table.{Table}
-use Rattle.event.specs.declared.said.Entry.{Entry}
-use Rattle.event.specs.declared.said.Entry.the-variants as entry
+use Rattle.event.specs.declared.events.Entry.{Entry}
+use Rattle.event.specs.declared.events.Entry.the-variants as entry
 use Rattle.fields.specs.Packing.{fieldAt}
 use Rattle.laws.specs.ListLaws.{Filled}
 use Rattle.record.specs.Format.{eventOf}
-use Rattle.rows.specs.Order.{idle, jobs}
+use Rattle.event.specs.Limits.{jobs}
+use Rattle.rows.specs.Order.{idle}
 use Rattle.rows.specs.declared.row.Row.{Row}
 use Rattle.probe.specs.declared.layout.Case.{Case}
 

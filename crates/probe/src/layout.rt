@@ -2,11 +2,11 @@
 // then the table: T 1, R 1, limit 4, true time 8, last turn 8, and for each job turn, declared, held, asked and since, 8 each.
 ghost use Prim.Native.Nat.{_<_};
 ghost use mathlib.Core.Path.{_≡_};
-ghost use Rattle.rows.specs.Order.{jobs};
+ghost use Rattle.event.specs.Limits.{jobs};
 ghost use Rattle.probe.specs.Layout.{CaseIn, RowsIn, TableIn, rowAt};
 use arbiter::Table;
+use event::JOBS;
 use event::Tick;
-use rows::JOBS;
 use rows::Row;
 use rows::Turn;
 

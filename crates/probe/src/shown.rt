@@ -5,9 +5,9 @@ use arbiter::Late;
 use arbiter::Report;
 use arbiter::Reported;
 use arbiter::Table;
+use event::JOBS;
 use event::Refusal;
 use record::Writing;
-use rows::JOBS;
 use rows::Row;
 use stream::Out;
 

@@ -8,7 +8,7 @@ use Rattle.event.specs.RefusalLaws.{refusalOf, refusalOf-numberOf}
 use Rattle.event.specs.declared.clock.Moment.{Moment}
 use Rattle.event.specs.declared.clock.Moment.the-variants as Moments
 use Rattle.event.specs.declared.refusal.Refusal.{Refusal}
-use Rattle.event.specs.declared.said.Event.{Event}
+use Rattle.event.specs.declared.events.Event.{Event}
 use Rattle.laws.specs.Cases.{Outcome, fine, refused}
 use Rattle.arbiter.specs.Answers.{Said, done, granted, lateOf, reportOf, saidOf, token, wait, woke}
 use Rattle.arbiter.specs.Promises.{Answered, AnsweredInto, Completes, Does, Reports, Started, ToldLate}

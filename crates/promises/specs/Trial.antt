@@ -6,15 +6,16 @@ use mathlib.Core.List.{List, [], _∷_, _++_}
 use mathlib.Core.Path.{_≡_, refl, sym, ap, fun-ext, subst, _∙_}
 use lib.Dec.{eqb, leb, ltb, eqb·suc-zero}
 use Rattle.event.specs.declared.clock.Tick.{Tick}
-use Rattle.event.specs.declared.said.Event.{Event}
-use Rattle.event.specs.declared.said.Event.the-variants.{Open, Complete}
+use Rattle.event.specs.declared.events.Event.{Event}
+use Rattle.event.specs.declared.events.Event.the-variants.{Open, Complete}
 use Rattle.laws.specs.Bools.{bit}
 use Rattle.laws.specs.Cases.{Outcome, fine, first, keepUnless, leaves, outcome, unless}
 use Rattle.laws.specs.CaseLaws.{acceptance-tells}
 use Rattle.laws.specs.Lists.{all, count}
 use Rattle.laws.specs.Sets.{below, inside, meet, meets, union}
 use Rattle.rows.specs.Line.{from, keep, lined, place}
-use Rattle.rows.specs.Order.{ahead, claims, distinct, inWay, jobs, live, token, waiting}
+use Rattle.event.specs.Limits.{jobs}
+use Rattle.rows.specs.Order.{ahead, claims, distinct, inWay, live, token, waiting}
 use Rattle.rows.specs.Sweep.{settled, woken}
 use Rattle.rows.specs.declared.row.Row.{Row}
 use Rattle.arbiter.specs.Meaning.{accepted, answer, next, report, reported, run, startTable, told, wakes}
@@ -22,11 +23,11 @@ use Rattle.arbiter.specs.Refusals.{cases, reportCases}
 use Rattle.arbiter.specs.Sound.{sound}
 use Rattle.arbiter.specs.declared.table.Report.{Report}
 use Rattle.arbiter.specs.declared.table.Table.{Table}
-use Rattle.promises.specs.Demand.{Demand3, Supposed, n, now, opened, p}
-use Rattle.promises.specs.DemandExample.{all-open, at, latecomer, now-is, past, set-waits, since, token-come, until}
-use Rattle.promises.specs.DemandHolds.{bears, demand3}
-use Rattle.promises.specs.History.{isFine, leavings, lists}
-use Rattle.promises.specs.Sound.{rowIn}
+use Rattle.promises.specs.Demand.Statement.{Demand3, Supposed, n, now, opened, p}
+use Rattle.promises.specs.Demand.Example.{all-open, at, latecomer, now-is, past, set-waits, since, token-come, until}
+use Rattle.promises.specs.Demand.Holds.{bears, demand3}
+use Rattle.promises.specs.History.Words.{isFine, leavings, lists}
+use Rattle.promises.specs.Sound.Words.{rowIn}
 
 -- ---- The arbiter on trial
 

@@ -6,7 +6,8 @@ use mathlib.Core.Path.{_≡_, sym, ap, subst, _∙_}
 use lib.Dec.{ltb}
 use lib.ListN.{getD}
 use Rattle.rows.specs.Line.{rowOf}
-use Rattle.rows.specs.Order.{jobs, token, waiting}
+use Rattle.event.specs.Limits.{jobs}
+use Rattle.rows.specs.Order.{token, waiting}
 use Rattle.rows.specs.Stand.{Stands, Surveyed, unknown}
 use Rattle.rows.specs.SweepLaws.{ahead-settled, distinct-settled, granted-keeps, in-way-settled, turn-settled}
 use Rattle.rows.specs.Sweep.{granted, rested, settled, swept, woke}

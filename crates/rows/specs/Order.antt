@@ -7,10 +7,6 @@ use Rattle.laws.specs.Lists.{all, count}
 use Rattle.laws.specs.Sets.{meets}
 use Rattle.rows.specs.declared.row.Row.{Row}
 
--- how many jobs there are, and so how many rows
-abbrev pub jobs : ℕ
-jobs = 64
-
 -- the row of a job that has no request
 abbrev pub idle : Row
 idle = record { turn = record { 0 = 0 }; declared = 0; held = 0; asked = 0; since = 0 }

@@ -6,7 +6,8 @@ use mathlib.Core.Path.{_≡_}
 use lib.ListN.{getD}
 use Rattle.laws.specs.Sets.{meets, union}
 use Rattle.rows.specs.Line.{rowOf}
-use Rattle.rows.specs.Order.{ahead, blocked, distinct, earlier, jobs}
+use Rattle.event.specs.Limits.{jobs}
+use Rattle.rows.specs.Order.{ahead, blocked, distinct, earlier}
 use Rattle.rows.specs.declared.row.Row.{Row}
 use Rattle.rows.specs.declared.stand.Standing.{Standing}
 use Rattle.rows.specs.declared.stand.Survey.{Survey}

@@ -8,7 +8,6 @@ mod stand;
 pub use line::Line;
 pub use line::line_up;
 pub use line::write_marked;
-pub use row::JOBS;
 pub use row::Row;
 pub use row::Turn;
 pub use row::earlier;

@@ -3,9 +3,6 @@ ghost use mathlib.Core.Path.{_≡_};
 ghost use lib.Dec.{ltb};
 ghost use Rattle.rows.specs.Order.{idle, live};
 
-// How many jobs there are, and so how many rows.
-pub const JOBS: usize = 64;
-
 // A request's place in the order of opening. A type of its own, so that no tick can be taken for one.
 #[repr(C)]
 pub struct Turn(pub u64);

@@ -1,18 +1,19 @@
 // Finding out what is known of turns and rows, each by one look at all rows.
-use crate::row::JOBS;
 use crate::row::Row;
 use crate::row::Turn;
 use crate::row::earlier;
 use crate::row::live;
 use crate::stand::Standing;
 use crate::stand::Survey;
+use event::JOBS;
 use laws::sets;
 ghost use Prim.Native.Nat.{_+_, _≤_};
 ghost use mathlib.Core.Path.{_≡_};
 ghost use lib.Dec.{eqb};
 ghost use Rattle.laws.specs.Bools.{bit};
 ghost use Rattle.laws.specs.Lists.{count};
-ghost use Rattle.rows.specs.Order.{alone, bears, claims, distinct, earlier, inWay, jobs, live};
+ghost use Rattle.event.specs.Limits.{jobs};
+ghost use Rattle.rows.specs.Order.{alone, bears, claims, distinct, earlier, inWay, live};
 ghost use Rattle.rows.specs.Stand.{Stands, Surveyed, joined, unknown};
 
 // Whether the row is live and of lower turn.

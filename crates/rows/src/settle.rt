@@ -1,9 +1,9 @@
 // What follows from what is known: who has a token, who waits, and what a change of the rows grants and wakes.
-use crate::row::JOBS;
 use crate::row::Row;
 use crate::row::live;
 use crate::stand::Standing;
 use crate::stand::Survey;
+use event::JOBS;
 use laws::sets;
 ghost use mathlib.Core.Path.{_≡_};
 ghost use Rattle.rows.specs.Known.{grantedBy, restedBy, sweptBy, tokenBy, waitingBy, wokeBy};

@@ -1,5 +1,5 @@
 // What is known of every row, between finding it out and using it.
-use crate::row::JOBS;
+use event::JOBS;
 
 // What is known of a turn: how many live rows stand before it, and all that those declare.
 pub struct Standing {

@@ -6,9 +6,9 @@ use arbiter::Next;
 use arbiter::Table;
 use event::Entry;
 use event::Event;
+use event::JOBS;
 use event::Start;
 use event::Tick;
-use rows::JOBS;
 use stream::Out;
 
 // What has been printed, and the table as it is now.

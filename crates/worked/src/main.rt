@@ -6,8 +6,8 @@ mod said;
 
 ghost use Prim.Native.Nat.{_≤_};
 ghost use mathlib.Core.Path.{_≡_};
-ghost use Rattle.event.specs.declared.said.Entry.the-variants as entry;
-ghost use Rattle.event.specs.declared.said.Event.the-variants as event;
+ghost use Rattle.event.specs.declared.events.Entry.the-variants as entry;
+ghost use Rattle.event.specs.declared.events.Event.the-variants as event;
 use arbiter::Table;
 use called::Now;
 use event::Entry;

@@ -8,7 +8,7 @@ use lib.ListN.{length, set}
 use Rattle.laws.specs.Cases.{fine}
 use Rattle.rows.specs.InLine.{lines-valid, listed-line}
 use Rattle.rows.specs.KnownLaws.{surveyed-settled}
-use Rattle.rows.specs.Order.{jobs}
+use Rattle.event.specs.Limits.{jobs}
 use Rattle.rows.specs.Sweep.{settled, woke, woken}
 use Rattle.rows.specs.declared.row.Row.{Row}
 use Rattle.arbiter.specs.Answers as Answers

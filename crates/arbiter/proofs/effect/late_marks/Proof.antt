@@ -9,7 +9,7 @@ use lib.ListN.{getD, length}
 use Rattle.laws.specs.ListLaws.{Filled, filled-more}
 use Rattle.rows.specs.KnownLaws.{waiting-by}
 use Rattle.rows.specs.Line.{rowOf}
-use Rattle.rows.specs.Order.{jobs}
+use Rattle.event.specs.Limits.{jobs}
 use Rattle.rows.specs.Stand.{unknown}
 use Rattle.rows.specs.declared.row.Row.{Row}
 use Rattle.arbiter.specs.Meaning.{lateJob}

@@ -4,7 +4,7 @@ use native.Mathlib.Omega.{arith}
 use borrow.Author.Needs.{needs}
 use lib.ListN.{length}
 use Rattle.rows.specs.InLine.{lines-valid, listed-line}
-use Rattle.rows.specs.Order.{jobs}
+use Rattle.event.specs.Limits.{jobs}
 use Rattle.arbiter.specs.Meaning.{lateAt, lateJob}
 use Rattle.arbiter.proofs.Arrays.{arrays}
 use Rattle.arbiter.proofs.effect.listed_late.Statement.{statement}

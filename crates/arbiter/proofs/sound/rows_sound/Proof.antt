@@ -10,7 +10,8 @@ use lib.ListN.{drop, drop-of-length-le, getD, length}
 use Rattle.laws.specs.Lists.{all}
 use Rattle.laws.specs.ListLaws.{all-drop}
 use Rattle.laws.specs.Sets.{meets}
-use Rattle.rows.specs.Order.{ahead, blocked, idle, jobs}
+use Rattle.event.specs.Limits.{jobs}
+use Rattle.rows.specs.Order.{ahead, blocked, idle}
 use Rattle.rows.specs.Stand.{Stands}
 use Rattle.rows.specs.declared.row.Row.{Row}
 use Rattle.rows.specs.declared.stand.Standing.{Standing}

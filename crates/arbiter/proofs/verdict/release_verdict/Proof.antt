@@ -3,7 +3,7 @@ use mathlib.Core.Path.{refl}
 use Rattle.laws.specs.Cases.{ascends, case}
 use Rattle.laws.specs.CaseLaws.{outcome-back, outcome-front}
 use Rattle.rows.specs.Line.{rowOf}
-use Rattle.rows.specs.Order.{jobs}
+use Rattle.event.specs.Limits.{jobs}
 use Rattle.arbiter.proofs.Verdicts.{has-row, judged}
 use Rattle.arbiter.specs.Refusals.{actOnCases, releaseCases}
 use Prim.Native.Nat.{_<_}

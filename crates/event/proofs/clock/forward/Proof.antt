@@ -1,10 +1,11 @@
 -- The two tests are the two cases, in their order; what passes both is the sum.
-use Prim.Native.Nat.{_+_, _-_, _^_}
+use Prim.Native.Nat.{_+_, _-_}
 use borrow.Author.Needs.{needs}
 use borrow.Author.Tests.{lt-ltb, le-ltb, le-leb, lt-leb}
 use native.Mathlib.Omega.{arith}
 use Rattle.laws.specs.CaseLaws.{outcome-is, none, this, past}
 use Rattle.event.specs.Clock.{difference, forward}
+use Rattle.event.specs.Limits.{highest}
 use Rattle.event.proofs.clock.forward.Statement.{statement}
 use Rattle.event.proofs.clock.forward.Tie as tie
 
@@ -29,7 +30,7 @@ unfolding forward
 returns-2 c =
     let time = c .before .before .before .args .time in
     let next = time + difference time (c .before .before .before .args .tick .0) in
-    outcome-is _ (past (lt-leb _ _ (c .before .if1 .left)) (this (lt-ltb (2 ^ 63 - 1) next (omega arith))))
+    outcome-is _ (past (lt-leb _ _ (c .before .if1 .left)) (this (lt-ltb highest next (omega arith))))
 
 add-t6 : tie.Need-add-t6
 add-t6 c = search needs
@@ -39,7 +40,7 @@ unfolding forward
 returns-3 c =
     let time = c .before .before .before .args .time in
     let next = time + difference time (c .before .before .before .args .tick .0) in
-    outcome-is _ (past (lt-leb _ _ (c .before .if1 .left)) (past (le-ltb (2 ^ 63 - 1) next (omega arith)) none))
+    outcome-is _ (past (lt-leb _ _ (c .before .if1 .left)) (past (le-ltb highest next (omega arith)) none))
 
 pub forward-spec : {M : Type 1} → statement M
 forward-spec =

@@ -2,7 +2,7 @@
 use mathlib.Core.Path.{ap}
 use borrow.Author.Tests.{eq-eqb, ne-eqb}
 use borrow.Author.Needs.{needs}
-use Rattle.event.specs.declared.said.Entry.the-variants as entry
+use Rattle.event.specs.declared.events.Entry.the-variants as entry
 use Rattle.probe.proofs.called.entry_of.Statement.{statement}
 use Rattle.probe.proofs.called.entry_of.Tie as tie
 

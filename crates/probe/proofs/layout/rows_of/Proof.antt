@@ -5,7 +5,8 @@ use native.Mathlib.Omega.{arith}
 use lib.ListN.{length}
 use borrow.Author.Needs.{needs}
 use Rattle.laws.specs.ListLaws.{Filled, filled-more}
-use Rattle.rows.specs.Order.{idle, jobs}
+use Rattle.event.specs.Limits.{jobs}
+use Rattle.rows.specs.Order.{idle}
 use Rattle.probe.specs.Layout.{rowAt}
 use Rattle.probe.proofs.layout.rows_of.Statement.{statement}
 use Rattle.probe.proofs.layout.rows_of.Tie as tie

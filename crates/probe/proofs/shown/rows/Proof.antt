@@ -3,7 +3,7 @@ use Prim.Native.Nat.{_-_, _≤_}
 use mathlib.Core.Path.{_≡_}
 use lib.ListN.{length}
 use borrow.Author.Needs.{needs}
-use Rattle.rows.specs.Order.{jobs}
+use Rattle.event.specs.Limits.{jobs}
 use Rattle.probe.proofs.shown.rows.Statement.{statement}
 use Rattle.probe.proofs.shown.rows.Tie as tie
 

@@ -9,7 +9,8 @@ use lib.ListN.{drop, drop-of-length-le, length}
 use Rattle.laws.specs.Lists.{all}
 use Rattle.laws.specs.ListLaws.{all-drop}
 use Rattle.rows.specs.Line.{rowOf}
-use Rattle.rows.specs.Order.{alone, distinct, idle, jobs}
+use Rattle.event.specs.Limits.{jobs}
+use Rattle.rows.specs.Order.{alone, distinct, idle}
 use Rattle.rows.specs.declared.row.Row.{Row}
 use Rattle.rows.proofs.scan.distinct.Statement.{statement}
 use Rattle.rows.proofs.scan.distinct.Tie as tie

@@ -3,7 +3,8 @@ use Prim.Native.Nat.{_≤_, _-_}
 use native.Mathlib.Omega.{arith}
 use borrow.Author.Needs.{needs}
 use Rattle.laws.specs.ListLaws.{Passed, passed-all, passed-le, passed-more, passed-none}
-use Rattle.rows.specs.Order.{claims, idle, inWay, jobs}
+use Rattle.event.specs.Limits.{jobs}
+use Rattle.rows.specs.Order.{claims, idle, inWay}
 use Rattle.rows.proofs.scan.in_way.Statement.{statement}
 use Rattle.rows.proofs.scan.in_way.Tie as tie
 

@@ -3,7 +3,8 @@ use Prim.Native.Nat.{_≤_, _-_}
 use native.Mathlib.Omega.{arith}
 use borrow.Author.Needs.{needs}
 use Rattle.laws.specs.ListLaws.{Passed, passed-all, passed-le, passed-more, passed-none}
-use Rattle.rows.specs.Order.{bears, idle, jobs}
+use Rattle.event.specs.Limits.{jobs}
+use Rattle.rows.specs.Order.{bears, idle}
 use Rattle.rows.proofs.scan.sharing.Statement.{statement}
 use Rattle.rows.proofs.scan.sharing.Tie as tie
 

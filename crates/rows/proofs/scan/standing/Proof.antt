@@ -4,7 +4,8 @@ use native.Mathlib.Omega.{arith}
 use borrow.Author.Needs.{needs}
 use Rattle.laws.specs.ListLaws.{passed-le}
 use Rattle.rows.proofs.Seen.{Seen, all-seen, more-seen, none-seen}
-use Rattle.rows.specs.Order.{earlier, jobs}
+use Rattle.event.specs.Limits.{jobs}
+use Rattle.rows.specs.Order.{earlier}
 use Rattle.rows.proofs.scan.standing.Statement.{statement}
 use Rattle.rows.proofs.scan.standing.Tie as tie
 

@@ -7,7 +7,7 @@ use borrow.Author.Needs.{needs}
 use lib.ListN.{length}
 use Rattle.laws.specs.ListLaws.{Filled, filled-more}
 use Rattle.rows.specs.Line.{rowOf}
-use Rattle.rows.specs.Order.{jobs}
+use Rattle.event.specs.Limits.{jobs}
 use Rattle.rows.specs.Stand.{Stands, unknown}
 use Rattle.rows.specs.declared.row.Row.{Row}
 use Rattle.rows.specs.declared.stand.Standing.{Standing}

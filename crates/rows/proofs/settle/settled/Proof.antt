@@ -9,7 +9,8 @@ use lib.Seq.{ext-getD}
 use Rattle.laws.specs.ListLaws.{Filled, filled-more}
 use Rattle.rows.specs.KnownLaws.{swept-by}
 use Rattle.rows.specs.Line.{rowOf}
-use Rattle.rows.specs.Order.{idle, jobs}
+use Rattle.event.specs.Limits.{jobs}
+use Rattle.rows.specs.Order.{idle}
 use Rattle.rows.specs.Stand.{unknown}
 use Rattle.rows.specs.SweepLaws.{length-settled, row-settled}
 use Rattle.rows.specs.Sweep.{settled, swept}

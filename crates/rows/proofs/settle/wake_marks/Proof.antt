@@ -8,7 +8,7 @@ use borrow.Author.Needs.{needs}
 use lib.ListN.{getD, length}
 use Rattle.laws.specs.ListLaws.{Filled, filled-more}
 use Rattle.rows.specs.KnownLaws.{woke-by}
-use Rattle.rows.specs.Order.{jobs}
+use Rattle.event.specs.Limits.{jobs}
 use Rattle.rows.specs.Stand.{unknown}
 use Rattle.rows.specs.Sweep.{woke}
 use Rattle.rows.specs.declared.row.Row.{Row}

@@ -3,11 +3,11 @@ use mathlib.Core.List.{List, []}
 use mathlib.Core.Path.{_≡_, refl, sym, ap, _∙_}
 use Prim.Native.Nat.{ℕ}
 use lib.ListN.{length}
-use Rattle.event.specs.declared.said.Event.{Event}
+use Rattle.event.specs.declared.events.Event.{Event}
 use Rattle.laws.specs.Cases.{Case, leaves, outcome}
 use Rattle.laws.specs.CaseLaws.{leaves-same}
 use Rattle.laws.specs.Front.{over}
-use Rattle.rows.specs.Order.{jobs}
+use Rattle.event.specs.Limits.{jobs}
 use Rattle.arbiter.specs.Meaning.{accepted, answer, listed, next, told, wakes}
 use Rattle.arbiter.specs.Promises.{Answered, AnsweredInto}
 use Rattle.arbiter.specs.Refusals.{cases}

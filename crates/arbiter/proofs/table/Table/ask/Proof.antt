@@ -1,10 +1,10 @@
 -- A refused verdict leaves the table; an accepted one does what the event means.
 use Prim.Native.Nat.{ℕ}
 use mathlib.Core.Path.{refl}
-use Rattle.event.specs.declared.said.Event.the-variants.{Ask}
+use Rattle.event.specs.declared.events.Event.the-variants.{Ask}
 use Rattle.laws.specs.Cases.{ascends, case}
 use Rattle.rows.specs.Line.{rowOf}
-use Rattle.rows.specs.Order.{jobs}
+use Rattle.event.specs.Limits.{jobs}
 use Rattle.arbiter.proofs.Answering.{accepted-answers, refused-answers}
 use Rattle.arbiter.proofs.Verdicts.{has-row, judged}
 use Rattle.arbiter.specs.Meaning.{askedRow, moved, timeAt}

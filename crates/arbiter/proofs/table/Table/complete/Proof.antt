@@ -2,7 +2,7 @@
 use Prim.Native.Nat.{ℕ}
 use mathlib.Core.Path.{refl, _∙_}
 use borrow.Author.Tests.{le-ltb, lt-ltb}
-use Rattle.event.specs.declared.said.Event.the-variants.{Complete}
+use Rattle.event.specs.declared.events.Event.the-variants.{Complete}
 use Rattle.laws.specs.Cases.{ascends, case}
 use Rattle.laws.specs.CaseLaws.{outcome-is, outcome-past, this}
 use Rattle.arbiter.proofs.Answering.{accepted-answers-into, refused-answers-into}

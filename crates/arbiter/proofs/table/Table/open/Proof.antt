@@ -1,9 +1,9 @@
 -- A refused verdict leaves the table; an accepted one does what the event means.
 use Prim.Native.Nat.{ℕ, _+_}
 use mathlib.Core.Path.{refl}
-use Rattle.event.specs.declared.said.Event.the-variants.{Open}
+use Rattle.event.specs.declared.events.Event.the-variants.{Open}
 use Rattle.laws.specs.Cases.{ascends, case}
-use Rattle.rows.specs.Order.{jobs}
+use Rattle.event.specs.Limits.{jobs}
 use Rattle.arbiter.proofs.Answering.{accepted-answers, refused-answers}
 use Rattle.arbiter.proofs.Verdicts.{has-row, judged, last-in-range}
 use Rattle.arbiter.specs.Meaning.{moved, openedRow, timeAt}

@@ -1,0 +1,157 @@
+-- One history, computed: it meets every hypothesis of demand 3, with more than T-1 before the opening, a set that waits,
+-- three before it of whom two are in its way, a completion that wakes two, and refused events and a later request between.
+use Prim.Native.Nat.{ℕ, _-_}
+use mathlib.Core.List.{List, [], _∷_, _++_}
+use mathlib.Core.Path.{_≡_, refl, sym, ap, _∙_}
+use lib.ListN.{replicate}
+use Rattle.event.specs.declared.clock.Tick.{Tick}
+use Rattle.event.specs.declared.events.Event.{Event}
+use Rattle.event.specs.declared.events.Event.the-variants.{Beat, Open, Ask, Complete}
+use Rattle.laws.specs.Cases.{Outcome, refused, fine, first, leaves, outcome}
+use Rattle.laws.specs.Lists.{all, count}
+use Rattle.laws.specs.Sets.{below, inside, meet, meets, union}
+use Rattle.rows.specs.Line.{from, keep, lined, place}
+use Rattle.event.specs.Limits.{jobs}
+use Rattle.rows.specs.Order.{ahead, claims, distinct, idle, inWay}
+use Rattle.rows.specs.Sweep.{settled, woken}
+use Rattle.rows.specs.declared.row.Row.{Row}
+use Rattle.arbiter.specs.Answers.{Said, wait, woke}
+use Rattle.arbiter.specs.Meaning.{answer, next, run, startAnswer, startTable}
+use Rattle.arbiter.specs.Sound.{sound}
+use Rattle.arbiter.specs.declared.table.Table.{Table}
+use Rattle.promises.specs.Demand.Statement.{Demand3, Supposed, n, now, opened, p}
+use Rattle.promises.specs.Demand.Holds.{demand3}
+use Rattle.promises.specs.History.Words.{leavings, lists}
+use Rattle.promises.specs.Sound.Words.{rowIn}
+
+-- the tick of that number
+abbrev pub at : ℕ → Tick
+at t = record { 0 = t }
+
+-- jobs 1, 2 and 3 declare {0, 1}, {1, 2} and {1}, jobs 4 and 5 {3} and {4}
+abbrev pub past : List Event
+past =
+    Open 1 (at 4294967281) 3
+    ∷ Open 2 (at 4294967282) 6
+    ∷ Open 3 (at 4294967283) 2
+    ∷ Open 4 (at 4294967284) 8
+    ∷ Open 5 (at 4294967285) 16
+    ∷ []
+
+-- behind them job 6 opens {0, 2, 5}; 7 opens later
+abbrev pub latecomer : Event
+latecomer = Open 7 (at 4294967290) 1
+
+-- until 6 has its token, 6 and 5 try what they may not yet, and 4 and 5 complete
+abbrev pub until : List Event
+until = Ask 6 (at 4294967291) 5 ∷ Complete 5 (at 1) ∷ Complete 4 (at 2) ∷ Complete 5 (at 4) ∷ []
+
+-- since then the clock has gone back once, 3 asks for {1}, 6 asks for {0, 2}, and 1 completes
+abbrev pub since : List Event
+since = Beat (at 3) ∷ Ask 3 (at 5) 2 ∷ Ask 6 (at 5) 5 ∷ Complete 1 (at 6) ∷ []
+
+-- something of this history, which starts with four tokens and six resources
+abbrev pub this {ℓ} : {A : Type ℓ} → (ℕ → ℕ → ℕ → ℕ → List Event → ℕ → Tick → ℕ → List Event → A) → A
+this f = f 4 6 4294967280 50 past 6 (at 4294967286) 37 (latecomer ∷ until ++ since)
+
+-- ---- Its tables, written out
+
+-- job 0 is idle, then come these, and all others are idle
+abbrev table : ℕ → List Row → Table
+table time rows =
+    record {
+      tokens = 4;
+      resources = 6;
+      limit = 50;
+      time = time;
+      last = record { 0 = 7 };
+      rows = idle ∷ rows ++ replicate (jobs - 8) idle;
+    }
+
+-- a row that holds nothing
+abbrev row : ℕ → ℕ → ℕ → ℕ → Row
+row turn declared asked since =
+    record { turn = record { 0 = turn }; declared = declared; held = 0; asked = asked; since = since }
+
+-- when 7 has opened: 1 to 4 have the tokens
+abbrev pub all-open : Table
+all-open =
+    table 4294967290
+    (row 1 3 0 0
+    ∷ row 2 6 0 0
+    ∷ row 3 2 0 0
+    ∷ row 4 8 0 0
+    ∷ row 5 16 0 4294967285
+    ∷ row 6 37 0 4294967286
+    ∷ row 7 1 0 4294967290
+    ∷ [])
+
+-- when 6 has its token
+abbrev pub token-come : Table
+token-come =
+    table 4294967300 (row 1 3 0 0 ∷ row 2 6 0 0 ∷ row 3 2 0 0 ∷ idle ∷ idle ∷ row 6 37 0 0 ∷ row 7 1 0 4294967290 ∷ [])
+
+-- when 1 has completed, and 3 and 6 wait for what they asked
+abbrev pub set-waits : Table
+set-waits =
+    table 4294967302
+    (idle ∷ row 2 6 0 0 ∷ row 3 2 2 4294967301 ∷ idle ∷ idle ∷ row 6 37 5 4294967301 ∷ row 7 1 0 0 ∷ [])
+
+-- each leads to the next
+pub record Tables : Type 0 where
+  pub opens : next jobs (this opened) latecomer ≡ all-open
+  pub comes : run all-open until ≡ token-come
+  pub waits : run token-come since ≡ set-waits
+
+pub tables : Tables
+unfolding startTable run next leaves first sound all distinct count ahead inWay below inside meet meets settled union
+tables = record { opens = refl; comes = refl; waits = refl }
+
+pub now-is : this now ≡ set-waits
+unfolding run
+now-is =
+    ap (λ (t : Table). run t (until ++ since)) (tables .opens) ∙ ap (λ (t : Table). run t since) (tables .comes) ∙ tables .waits
+
+-- ---- The hypotheses are met
+
+supposed : this Supposed
+unfolding startAnswer answer outcome startTable run next leaves first sound all distinct count ahead inWay below inside meet meets
+supposed =
+    let turn : this n ≡ 6 = refl in
+    record { started = refl; accepted = refl; lives = ap (λ (t : Table). rowIn t 6 .turn .0) now-is ∙ sym turn }
+
+pub promised : this Demand3
+promised = demand3 4 6 4294967280 50 past 6 (at 4294967286) 37 (latecomer ∷ until ++ since) supposed
+
+-- ---- In figures
+
+-- the answers to events, one after another
+unfoldable pub answers : Table → List Event → List (Outcome Said)
+answers t [] = []
+answers t (e ∷ es) = answer jobs t e ∷ answers (next jobs t e) es
+
+-- what the history shows
+pub record Shown : Type 0 where
+  -- it is opened behind five; refused events count for nothing, and the second completion brings the token
+  pub behind : this p ≡ 5
+  pub told-until : answers all-open until ≡ refused 9 ∷ refused 9 ∷ fine (woke 1) ∷ fine (woke 1) ∷ []
+  -- three are then before it, two of them in the way; one of these leaves, and the set waits on
+  pub before : ahead (token-come .rows) 6 ≡ 3
+  pub way : inWay (token-come .rows) 6 37 ≡ 2
+  pub told-since : answers token-come since ≡ refused 5 ∷ fine wait ∷ fine wait ∷ fine (woke 1) ∷ []
+  pub left : leavings (claims 6 37) token-come since ≡ 1
+  -- when the other leaves too, it is listed
+  pub wakes : lists set-waits (Complete 2 (at 7)) ≡ 3 ∷ 6 ∷ []
+
+pub shown : Shown
+unfolding answers leavings answer outcome startTable run next leaves first sound all distinct count ahead inWay below inside meet meets settled union woken keep lined from place
+shown =
+    record {
+      behind = refl;
+      told-until = refl;
+      before = refl;
+      way = refl;
+      told-since = refl;
+      left = refl;
+      wakes = refl;
+    }

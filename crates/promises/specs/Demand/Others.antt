@@ -1,0 +1,133 @@
+-- Who enters a request's history and who does not: those in its way, later requests, refused events.
+use Prim.Native.Nat.{ℕ, _+_, _-_, _<_, _≤_}
+use mathlib.Core.Bool.{Bool, true, false, not, cond, _&&_, and-not-self, true≢false}
+use mathlib.Core.List.{List, [], _∷_}
+use mathlib.Core.Path.{_≡_, refl, sym, ap, ap₂, _∙_}
+use native.Mathlib.Nat.{zero-add}
+use native.Mathlib.Omega.{arith}
+use borrow.Author.Tests.{lt-ltb, ltb-true}
+use lib.Dec.{eqb}
+use Rattle.event.specs.declared.events.Event.{Event}
+use Rattle.laws.specs.Bools.{bit}
+use Rattle.laws.specs.Lists.{count}
+use Rattle.rows.specs.InWay.{in-way-ahead}
+use Rattle.event.specs.Limits.{jobs}
+use Rattle.rows.specs.Order.{ahead, claims, earlier, inWay, live, token, waiting}
+use Rattle.rows.specs.declared.row.Row.{Row}
+use Rattle.arbiter.specs.Meaning.{accepted, next, run, wakes}
+use Rattle.arbiter.specs.declared.table.Table.{Table}
+use Rattle.promises.specs.Demand.Statement.{Beside, Unmoved}
+use Rattle.promises.specs.History.Words.{Leaves, heeded, leaving, leavings, none, one, taken, Along, Bears}
+use Rattle.promises.specs.History.Events.{next-either, who-leaves}
+use Rattle.promises.specs.History.Count.{ahead-accepted, lower-ahead, lower-way, way-accepted}
+use Rattle.promises.specs.History.Row.{row-after, swept-alike, swept-rests}
+use Rattle.promises.specs.History.Woken.{listed-after}
+use Rattle.promises.specs.Kept.Words.{Accepts, Alike}
+use Rattle.promises.specs.Kept.Accepted.{was-sound}
+use Rattle.promises.specs.Kept.Rows.{waiting-alike}
+use Rattle.promises.specs.Sound.Words.{rowIn}
+
+-- ---- Those in the way stand before it
+
+pub way-bounded : (T : ℕ) (rows : List Row) (n s : ℕ) → token T rows n ≡ true → inWay rows n s ≤ T - 1
+way-bounded T rows n s has = omega (arith, in-way-ahead rows n s, ltb-true (ahead rows n) T has)
+
+-- ---- Later requests
+
+-- what fails of every higher turn than n counts nobody who leaves by an event beside those up to n
+beside-leaves :
+    (f : Row → Bool) (n : ℕ) (t : Table) (e : Event) → Beside n t e → ((r : Row) → n < r .turn .0 → f r ≡ false) →
+    Leaves t e → leaving f t e ≡ 0
+beside-leaves f n t e aside late (none stays) = stays f
+beside-leaves f n t e aside late (one i a named leaves) =
+    let above : ¬ (rowIn t i .turn .0 ≤ n) = λ low. true≢false (sym named ∙ aside i (lt-ltb 0 (rowIn t i .turn .0) (a .alive)) low) in
+    leaves f ∙ ap bit (late (rowIn t i) (omega arith))
+
+module _ {T n : ℕ} (t : Table) (along : Along T n t) (e : Event) (aside : Beside n t e) where
+  abbrev turn : ℕ → ℕ
+  turn i = rowIn t i .turn .0
+
+  lower : (k : ℕ) → k ≤ n → Along T k t
+  lower k low = record { wide = along .wide; tokens = along .tokens; given = omega (arith, along .given) }
+
+  module _ (ok : Accepts jobs t e) where
+    abbrev after : Table
+    after = accepted t e
+
+    -- from a turn up to n the rows after look as those before
+    alike-beside : (k : ℕ) → k ≤ n → Alike (t .rows) (after .rows) k
+    alike-beside k low =
+        record {
+          same-ahead =
+              let stays = beside-leaves (earlier k) n t e aside
+              (λ r late. lower-ahead k .late-fails r (omega arith)) (who-leaves t e ok) in
+              omega (arith, ahead-accepted t (lower k low) e ok);
+          same-way = λ x.
+              let stays = beside-leaves (claims k x) n t e aside
+              (λ r late. lower-way k x .late-fails r (omega arith)) (who-leaves t e ok) in
+              omega (arith, way-accepted t (lower k low) x e ok);
+        }
+
+    module _ (i : ℕ) (lives : live (rowIn t i) ≡ true) (low : turn i ≤ n) where
+      some : 0 < turn i
+      some = ltb-true 0 (turn i) lives
+
+      bears : Bears T (turn i) i t
+      bears = record { along = lower (turn i) low; some = some; turn = refl }
+
+      row-beside : rowIn after i ≡ rowIn t i
+      row-beside =
+          row-after bears e ok (aside i lives low)
+          ∙ sym (swept-alike (t .tokens) (rowIn t i) (alike-beside (turn i) low))
+          ∙ swept-rests t (rowIn t i) some (was-sound jobs t e ok .rows i .lives some)
+
+      listed-beside : count (eqb i) (wakes t e) ≡ 0
+      listed-beside =
+          let still : waiting T (after .rows) (rowIn after i) ≡ waiting T (t .rows) (rowIn t i) =
+          ap (waiting T (after .rows)) row-beside ∙ sym (waiting-alike T (rowIn t i) (alike-beside (turn i) low)) in
+          listed-after bears e ok (aside i lives low)
+          ∙ ap (λ (b : Bool). bit (waiting T (t .rows) (rowIn t i) && not b)) still
+          ∙ ap bit (and-not-self (waiting T (t .rows) (rowIn t i)))
+
+  pub unmoved : Unmoved n t e
+  unfolding count
+  unmoved =
+      record {
+        row = λ i lives low. next-either t e (λ b u. rowIn u i ≡ rowIn t i) (λ ok. row-beside ok i lives low) refl;
+        unlisted = λ i lives low.
+            next-either t e (λ b u. count (eqb i) (cond b (wakes t e) []) ≡ 0) (λ ok. listed-beside ok i lives low) refl;
+        before = λ k low.
+            next-either t e (λ b u. ahead (u .rows) k ≡ ahead (t .rows) k) (λ ok. sym (alike-beside ok k low .same-ahead)) refl;
+        way = λ k x low.
+            next-either t e (λ b u. inWay (u .rows) k x ≡ inWay (t .rows) k x) (λ ok. sym (alike-beside ok k low .same-way x)) refl;
+      }
+
+-- ---- Refused events
+
+-- the accepted events alone lead to the same table
+pub run-heeded : (t : Table) (es : List Event) → run t (heeded t es) ≡ run t es
+unfolding run heeded
+run-heeded t [] = refl
+run-heeded t (e ∷ es) =
+    let rest = heeded (next jobs t e) es in
+    let same = run-heeded (next jobs t e) es in
+    next-either t e (λ b u. u ≡ next jobs t e → run t (cond b (e ∷ rest) rest) ≡ run (next jobs t e) es)
+    (λ ok q. same)
+    (λ q. ap (λ (u : Table). run u rest) q ∙ same)
+    refl
+
+-- and by them as many requests leave
+pub leavings-heeded : (f : Row → Bool) (t : Table) (es : List Event) → leavings f t (heeded t es) ≡ leavings f t es
+unfolding leavings heeded
+leavings-heeded f t [] = refl
+leavings-heeded f t (e ∷ es) =
+    let rest = heeded (next jobs t e) es in
+    let same = leavings-heeded f (next jobs t e) es in
+    next-either t e
+    (λ b u.
+    taken t e ≡ b → u ≡ next jobs t e →
+    leavings f t (cond b (e ∷ rest) rest) ≡ cond b (leaving f t e) 0 + leavings f (next jobs t e) es)
+    (λ ok h q. ap₂ _+_ (ap (λ (b : Bool). cond b (leaving f t e) 0) h) same)
+    (λ h q. ap (λ (u : Table). leavings f u rest) q ∙ same ∙ sym (zero-add (leavings f (next jobs t e) es)))
+    refl
+    refl

@@ -1,0 +1,237 @@
+-- The token of a request: it is opened with all live requests before it, and as many must complete as are too many.
+use Prim.Native.Nat.{ℕ, _+_, _-_, _<_, _≤_}
+use mathlib.Core.Bool.{Bool, true, false, not, cond, _&&_, _||_, and-true}
+use mathlib.Core.List.{List, [], _∷_}
+use mathlib.Core.Path.{_≡_, refl, sym, ap, ap₂, subst, _∙_}
+use native.Mathlib.Nat.{le-antisymm}
+use native.Mathlib.Omega.{arith}
+use borrow.Author.Tests.{lt-ltb, ltb-true, ltb-false, le-leb, leb-true}
+use lib.Dec.{eqb, leb, ltb}
+use lib.ListN.{length}
+use lib.Seq.{getD-set-same}
+use Rattle.event.specs.declared.clock.Tick.{Tick}
+use Rattle.event.specs.declared.events.Event.{Event}
+use Rattle.event.specs.declared.events.Event.the-variants.{Open}
+use Rattle.laws.specs.Bools.{bit}
+use Rattle.laws.specs.BoolLaws.{bit-le, and-left, either}
+use Rattle.laws.specs.Counts.{count-mono}
+use Rattle.laws.specs.Lists.{count}
+use Rattle.rows.specs.InWay.{ahead-mono}
+use Rattle.event.specs.Limits.{jobs}
+use Rattle.rows.specs.Order.{ahead, blocked, earlier, idle, live, token, waiting}
+use Rattle.rows.specs.OrderLaws.{ahead-set}
+use Rattle.rows.specs.Turns.{turn-earlier}
+use Rattle.rows.specs.declared.row.Row.{Row}
+use Rattle.arbiter.specs.Meaning.{accepted, next, openedRow, run, timeAt, wakes}
+use Rattle.arbiter.specs.declared.table.Table.{Table}
+use Rattle.promises.specs.History.Words.{Leaves, leaving, leavings, lists, names, none, one, taken, Along, Bears}
+use Rattle.promises.specs.History.Events.{next-either, who-leaves}
+use Rattle.promises.specs.History.Count.{ahead-run, along-accepted, along-next, lower-ahead}
+use Rattle.promises.specs.History.Row.{alive, bears-after, lives, sets-after, waiting-is}
+use Rattle.promises.specs.History.Woken.{listed-after, unnamed}
+use Rattle.promises.specs.Kept.Words.{Accepts, Acts}
+use Rattle.promises.specs.Kept.Accepted.{next-accepted, open-below, open-idle, was-sound}
+use Rattle.promises.specs.Sound.Words.{rowIn}
+use Rattle.promises.specs.Sound.Facts.{turns-given}
+
+-- ---- The opening
+
+module _ {T : ℕ} (t : Table) (along : Along T 0 t) (j : ℕ) (tick : Tick) (s : ℕ) (ok : Accepts jobs t (Open j tick s)) where
+  abbrev n : ℕ
+  n = t .last .0 + 1
+
+  pub along-opened : Along T n (next jobs t (Open j tick s))
+  along-opened =
+      let after = along-accepted along (Open j tick s) in
+      subst (Along T n) (sym (next-accepted jobs t (Open j tick s) ok))
+      (record { wide = after .wide; tokens = after .tokens; given = omega arith })
+
+  -- it declares what it was opened with
+  pub declared-opened : rowIn (next jobs t (Open j tick s)) j .declared ≡ s
+  declared-opened =
+      let below : j < length (t .rows) = omega (arith, along .wide, open-below jobs t j tick s ok) in
+      rw (next-accepted jobs t (Open j tick s) ok)
+      (ap (λ (r : Row). r .declared) (getD-set-same (t .rows) j (openedRow t (timeAt t (tick .0)) s) idle below))
+
+  -- every live turn has been given, so it is lower than the next
+  pub all-before : ahead (t .rows) n ≡ count live (t .rows)
+  unfolding ahead
+  all-before =
+      let p = was-sound jobs t (Open j tick s) ok in
+      le-antisymm
+      (count-mono live idle refl (earlier n) (t .rows) (t .rows)
+      (λ k. and-left (live (rowIn t k)) (ltb (rowIn t k .turn .0) n)))
+      (count-mono (earlier n) idle refl live (t .rows) (t .rows)
+      (λ k lives. turn-earlier n (rowIn t k) (ltb-true 0 (rowIn t k .turn .0) lives) (omega (arith, turns-given p k))))
+
+  -- a new request has all live ones before it
+  pub ahead-opened : ahead (next jobs t (Open j tick s) .rows) n ≡ count live (t .rows)
+  ahead-opened =
+      let r = openedRow t (timeAt t (tick .0)) s in
+      rw (next-accepted jobs t (Open j tick s) ok)
+      (omega (
+        arith,
+        all-before,
+        ahead-set (t .rows) j r (omega (arith, along .wide, open-below jobs t j tick s ok)) n,
+        ap bit (lower-ahead n .idle-fails (rowIn t j) (open-idle jobs t j tick s ok)),
+        ap bit (lower-ahead n .late-fails r (omega arith)),
+      ))
+
+-- ---- Plain numbers
+
+-- two tests are the same where each tells the other
+agree : (a b : Bool) → (a ≡ true → b ≡ true) → (b ≡ true → a ≡ true) → a ≡ b
+agree true b p q = sym (p refl)
+agree false true p q = q refl
+agree false false p q = refl
+
+-- to be below T is to be at most T-1
+pub below-at-most : (p T : ℕ) → 1 ≤ T → ltb p T ≡ leb p (T - 1)
+below-at-most p T some =
+    agree (ltb p T) (leb p (T - 1))
+    (λ q. le-leb p (T - 1) (omega (arith, ltb-true p T q)))
+    (λ q. lt-ltb p T (omega (arith, leb-true p (T - 1) q)))
+
+-- of p rows a are left, e having left: they are fewer than T exactly if as many left as p exceeds T-1
+enough : (a e p T : ℕ) → 1 ≤ T → e + a ≡ p → ltb a T ≡ leb (p - (T - 1)) e
+enough a e p T some sum =
+    agree (ltb a T) (leb (p - (T - 1)) e)
+    (λ q. le-leb (p - (T - 1)) e (omega (arith, ltb-true a T q)))
+    (λ q. lt-ltb a T (omega (arith, leb-true (p - (T - 1)) e q)))
+
+-- and so for l, which is at least e, and more only once they are fewer than T
+enough-all : (a e l p T : ℕ) → 1 ≤ T → e + a ≡ p → e ≤ l → (T ≤ a → l ≡ e) → ltb a T ≡ leb (p - (T - 1)) l
+enough-all a e l p T some sum more till =
+    agree (ltb a T) (leb (p - (T - 1)) l)
+    (λ q. le-leb (p - (T - 1)) l (omega (arith, ltb-true a T q)))
+    (λ q. few (ltb a T) refl (leb-true (p - (T - 1)) l q))
+  where
+    few : (b : Bool) → ltb a T ≡ b → p - (T - 1) ≤ l → b ≡ true
+    few true c h = refl
+    few false c h = absurd (omega (arith, till (ltb-false a T c), ltb-false a T c))
+
+-- ---- Until the token comes every completion is one of an earlier request
+
+module _ {T n : ℕ} where
+  -- while turn n has no token, whoever acts has a lower turn
+  acts-before :
+      (t : Table) → Along T n t → T ≤ ahead (t .rows) n → (i : ℕ) → Acts t i → live (rowIn t i) ≡ earlier n (rowIn t i)
+  acts-before t along lacks i a = go (ltb turn n) refl
+    where
+      turn : ℕ
+      turn = rowIn t i .turn .0
+
+      go : (b : Bool) → ltb turn n ≡ b → live (rowIn t i) ≡ (live (rowIn t i) && b)
+      go true q = sym (and-true (live (rowIn t i)))
+      go false q =
+          absurd (omega (
+            arith,
+            along .tokens,
+            a .has,
+            ahead-mono (t .rows) n turn (ltb-false turn n q),
+          ))
+
+  all-leave :
+      (t : Table) → Along T n t → T ≤ ahead (t .rows) n → (e : Event) → Leaves t e →
+      leaving live t e ≡ leaving (earlier n) t e
+  all-leave t along lacks e (none stays) = stays live ∙ sym (stays (earlier n))
+  all-leave t along lacks e (one i a named leaves) =
+      leaves live ∙ ap bit (acts-before t along lacks i a) ∙ sym (leaves (earlier n))
+
+  all-earlier :
+      (t : Table) → Along T n t → (es : List Event) → T ≤ ahead (run t es .rows) n →
+      leavings live t es ≡ leavings (earlier n) t es
+  unfolding leavings run
+  all-earlier t along [] lacks = refl
+  all-earlier t along (e ∷ es) lacks =
+      ap₂ _+_
+      (next-either t e (λ b u. cond b (leaving live t e) 0 ≡ cond b (leaving (earlier n) t e) 0)
+      (λ ok. all-leave t along (omega (arith, ahead-run t along (e ∷ es))) e (who-leaves t e ok))
+      refl)
+      (all-earlier (next jobs t e) (along-next along e) es lacks)
+
+-- at any time the completions of earlier requests are no more than all
+module _ (n : ℕ) where
+  part-leaves : (t : Table) (e : Event) → Leaves t e → leaving (earlier n) t e ≤ leaving live t e
+  part-leaves t e (none stays) = omega (arith, stays (earlier n))
+  part-leaves t e (one i a named leaves) =
+      omega (arith, leaves (earlier n), leaves live, ap bit (lt-ltb 0 (rowIn t i .turn .0) (a .alive)), bit-le (earlier n (rowIn t i)))
+
+  some-earlier : (t : Table) (es : List Event) → leavings (earlier n) t es ≤ leavings live t es
+  unfolding leavings
+  some-earlier t [] = omega arith
+  some-earlier t (e ∷ es) =
+      let step : cond (taken t e) (leaving (earlier n) t e) 0 ≤ cond (taken t e) (leaving live t e) 0 =
+      next-either t e (λ b u. cond b (leaving (earlier n) t e) 0 ≤ cond b (leaving live t e) 0)
+      (λ ok. part-leaves t e (who-leaves t e ok))
+      (omega arith) in
+      omega (arith, some-earlier (next jobs t e) es)
+
+-- ---- When the token comes
+
+module _ {T n : ℕ} (some : 1 ≤ T) (t : Table) (along : Along T n t) (es : List Event) where
+  pub token-by-earlier : token T (run t es .rows) n ≡ leb (ahead (t .rows) n - (T - 1)) (leavings (earlier n) t es)
+  token-by-earlier =
+      enough (ahead (run t es .rows) n) (leavings (earlier n) t es) (ahead (t .rows) n) T some (ahead-run t along es)
+
+  pub token-by-all : token T (run t es .rows) n ≡ leb (ahead (t .rows) n - (T - 1)) (leavings live t es)
+  token-by-all =
+      enough-all (ahead (run t es .rows) n) (leavings (earlier n) t es) (leavings live t es) (ahead (t .rows) n) T some
+      (ahead-run t along es)
+      (some-earlier n t es)
+      (all-earlier t along es)
+
+-- ---- Who is told
+
+module _ {T n j : ℕ} {t : Table} (b : Bears T n j t) (lacks : token T (t .rows) n ≡ false) where
+  abbrev row : Row
+  row = rowIn t j
+
+  waits : waiting T (t .rows) row ≡ true
+  waits = waiting-is T (t .rows) row (lives b) (ap (token T (t .rows)) (b .turn) ∙ lacks) refl
+
+  module _ (e : Event) (ok : Accepts jobs t e) where
+    abbrev after : Table
+    after = accepted t e
+
+    own : names j e ≡ false
+    own = unnamed b waits e ok
+
+    bears-then : Bears T n j after
+    bears-then = bears-after b e ok own
+
+    -- without a token nothing is asked
+    asks-none : row .asked ≡ 0
+    asks-none =
+        let before : ahead (t .rows) (row .turn .0) ≡ ahead (t .rows) n = ap (ahead (t .rows)) (b .turn) in
+        was-sound jobs t e ok .rows j .lives (alive b) .asks-by-token
+        (omega (arith, b .along .tokens, ltb-false (ahead (t .rows) n) T lacks))
+
+    asks-none-then : rowIn after j .asked ≡ 0
+    asks-none-then =
+        sets-after b e ok own .1
+        ∙ ap (λ (x : ℕ). cond (blocked (after .rows) n x) x 0) asks-none
+        ∙ either (λ (x : ℕ). x) (blocked (after .rows) n 0) 0 0 refl
+
+    -- so it waits on exactly where it still has no token
+    waits-then : waiting T (after .rows) (rowIn after j) ≡ (not (token T (after .rows) n) || false)
+    waits-then =
+        waiting-is T (after .rows) (rowIn after j)
+        (lives bears-then)
+        (ap (token T (after .rows)) (bears-then .turn))
+        (ap (ltb 0) asks-none-then)
+
+  -- the event that brings the token lists the job, once, and none before it does
+  pub token-told : (e : Event) → count (eqb j) (lists t e) ≡ bit (token T (next jobs t e .rows) n)
+  unfolding count
+  token-told e =
+      next-either t e (λ a u. count (eqb j) (cond a (wakes t e) []) ≡ bit (token T (u .rows) n))
+      (λ ok.
+      listed-after b e ok (own e ok)
+      ∙ (λ i. bit (waits i && not (waits-then e ok i)))
+      ∙ told (token T (accepted t e .rows) n))
+      (sym (ap bit lacks))
+    where
+      told : (a : Bool) → bit (not (not a || false)) ≡ bit a
+      told true = refl
+      told false = refl

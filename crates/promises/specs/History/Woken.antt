@@ -1,0 +1,61 @@
+-- Whom an accepted event wakes: a job that waits before it and not after it is listed once, and no other.
+use Prim.Native.Nat.{ℕ}
+use mathlib.Core.Bool.{Bool, true, false, _&&_}
+use mathlib.Core.Path.{_≡_, refl, sym, ap, _∙_}
+use borrow.Author.Tests.{eqb-true}
+use lib.Dec.{eqb}
+use Rattle.event.specs.declared.events.Event.{Event}
+use Rattle.event.specs.declared.events.Event.the-variants.{Beat, Open, Ask, Release, Complete}
+use Rattle.laws.specs.Bools.{bit}
+use Rattle.laws.specs.Lists.{count}
+use Rattle.rows.specs.InLine.{listed-once}
+use Rattle.event.specs.Limits.{jobs}
+use Rattle.rows.specs.Order.{waiting}
+use Rattle.rows.specs.Sweep.{woke, woken}
+use Rattle.arbiter.specs.Meaning.{accepted, wakes}
+use Rattle.arbiter.specs.declared.table.Table.{Table}
+use Rattle.promises.specs.History.Words.{names, Bears}
+use Rattle.promises.specs.History.Row.{bears-after, lives}
+use Rattle.promises.specs.Kept.Words.{Accepts}
+use Rattle.promises.specs.Kept.Accepted.{actor-rests, ask-acts, complete-acts, idle-rests, next-accepted, open-idle, release-acts}
+use Rattle.promises.specs.Kept.Woken.{wakes-woken}
+use Rattle.promises.specs.Sound.Words.{rowIn}
+
+-- ---- While a job waits, its own events are refused
+
+module _ (t : Table) where
+  abbrev waits : ℕ → Bool
+  waits j = waiting (t .tokens) (t .rows) (rowIn t j)
+
+  -- a job that waits is another than one that does not
+  apart : (i j : ℕ) → waits i ≡ false → waits j ≡ true → eqb i j ≡ false
+  apart i j awake w = go (eqb i j) refl
+    where
+      go : (b : Bool) → eqb i j ≡ b → b ≡ false
+      go true q = sym w ∙ ap waits (sym (eqb-true i j q)) ∙ awake
+      go false q = refl
+
+  waits-unnamed : (j : ℕ) → waits j ≡ true → (e : Event) → Accepts jobs t e → names j e ≡ false
+  waits-unnamed j w (Beat tick) ok = refl
+  waits-unnamed j w (Open i tick s) ok = apart i j (idle-rests t i (open-idle jobs t i tick s ok)) w
+  waits-unnamed j w (Ask i tick s) ok = apart i j (actor-rests (ask-acts jobs t i tick s ok)) w
+  waits-unnamed j w (Release i tick s) ok = apart i j (actor-rests (release-acts jobs t i tick s ok)) w
+  waits-unnamed j w (Complete i tick) ok = apart i j (actor-rests (complete-acts jobs t i tick ok)) w
+
+-- ---- Who is listed
+
+module _ {T n j : ℕ} {t : Table} (b : Bears T n j t) where
+  -- a waiting job is named by no accepted event
+  pub unnamed : waiting T (t .rows) (rowIn t j) ≡ true → (e : Event) → Accepts jobs t e → names j e ≡ false
+  unnamed w = waits-unnamed t j (ap (λ (T : ℕ). waiting T (t .rows) (rowIn t j)) (b .along .tokens) ∙ w)
+
+  -- an event lists a job that it does not name, once, exactly where that job waits before it and not after it
+  pub listed-after :
+      (e : Event) → Accepts jobs t e → names j e ≡ false →
+      count (eqb j) (wakes t e) ≡ bit (woke T (t .rows) (accepted t e .rows) j)
+  unfolding woken
+  listed-after e ok u =
+      let after = accepted t e .rows in
+      ap (count (eqb j)) (rw (next-accepted jobs t e ok) at (wakes-woken jobs t e ok))
+      ∙ listed-once (woke (t .tokens) (t .rows) after) after j
+      ∙ (λ i. bit (lives (bears-after b e ok u) i && woke (b .along .tokens i) (t .rows) after j))

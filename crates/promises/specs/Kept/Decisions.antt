@@ -1,0 +1,88 @@
+-- What Q3 decides on a set, at an ask and in a sweep: the whole of it or nothing.
+use Prim.Native.Nat.{ℕ}
+use mathlib.Core.Bool.{Bool, true, false, cond, true≢false}
+use mathlib.Core.List.{List}
+use mathlib.Core.Path.{_≡_, refl, sym, _∙_}
+use native.Mathlib.Nat.{le-of-eq}
+use native.Mathlib.Omega.{arith}
+use borrow.Author.Tests.{le-ltb, lt-ltb, ltb-true, ltb-false}
+use lib.Arith.{le-zero}
+use Rattle.laws.specs.Sets.{union}
+use Rattle.rows.specs.Order.{blocked, inWay, waiting}
+use Rattle.rows.specs.Sweep.{rested, swept}
+use Rattle.rows.specs.declared.row.Row.{Row}
+use Rattle.arbiter.specs.Meaning.{askedRow}
+use Rattle.arbiter.specs.declared.table.Table.{Table}
+use Rattle.promises.specs.Kept.Words.{Decided, grants, waits, Asked, Swept}
+
+-- ---- The decision
+
+-- so both sets go by the one test
+pub decided-sets :
+    {rows : List Row} {s held asked : ℕ} {r : Row} → Decided rows s r held asked →
+    (held ≡ cond (blocked rows (r .turn .0) s) (r .held) (union (r .held) s))
+    × (asked ≡ cond (blocked rows (r .turn .0) s) s 0)
+decided-sets {rows} {s} {r = r} (grants way h e) = rw (le-ltb 0 (inWay rows (r .turn .0) s) (le-of-eq way)) (h, e)
+decided-sets {rows} {s} {r = r} (waits way h e) = rw (lt-ltb 0 (inWay rows (r .turn .0) s) way) (h, e)
+
+-- ---- The ask
+
+pub asks : (t : Table) (time s : ℕ) (r : Row) → r .asked ≡ 0 → Asked t time s r (askedRow t r time s)
+asks t time s r nothing = go (blocked (t .rows) (r .turn .0) s) refl
+  where
+    go : (b : Bool) → blocked (t .rows) (r .turn .0) s ≡ b → Asked t time s r (askedRow t r time s)
+    go true e =
+        let way = ltb-true 0 (inWay (t .rows) (r .turn .0) s) e in
+        rw e
+        (record {
+          turn = refl;
+          declared = refl;
+          decided = waits way refl refl;
+          waits-now = λ _. refl;
+          goes-on = λ z. absurd (omega arith);
+        })
+    go false e =
+        let way = le-zero (ltb-false 0 (inWay (t .rows) (r .turn .0) s) e) in
+        rw e
+        (record {
+          turn = refl;
+          declared = refl;
+          decided = grants way refl nothing;
+          waits-now = λ h. absurd (omega arith);
+          goes-on = λ _. refl;
+        })
+
+-- ---- The sweep
+
+module _ (T : ℕ) (rows : List Row) (r : Row) where
+  rest :
+      (g : Row) → g .turn .0 ≡ r .turn .0 → g .declared ≡ r .declared → g .since ≡ r .since →
+      Decided rows (r .asked) r (g .held) (g .asked) → Swept T rows r (rested T rows g)
+  rest g turn declared since d = go (waiting T rows g) refl
+    where
+      go : (b : Bool) → waiting T rows g ≡ b → Swept T rows r (rested T rows g)
+      go true e =
+          rw e
+          (record {
+            turn = turn;
+            declared = declared;
+            decided = d;
+            since = λ _. since;
+            rests = λ f. absurd (true≢false (sym e ∙ f));
+          })
+      go false e =
+          rw e
+          (record {
+            turn = turn;
+            declared = declared;
+            decided = d;
+            since = λ f. absurd (true≢false (sym f ∙ e));
+            rests = λ _. refl;
+          })
+
+  pub sweeps : Swept T rows r (swept T rows r)
+  sweeps = go (blocked rows (r .turn .0) (r .asked)) refl
+    where
+      go : (b : Bool) → blocked rows (r .turn .0) (r .asked) ≡ b → Swept T rows r (swept T rows r)
+      go true e = rw e (rest r refl refl refl (waits (ltb-true 0 (inWay rows (r .turn .0) (r .asked)) e) refl refl))
+      go false e = rw e (rest _ refl refl refl (grants (le-zero (ltb-false 0 (inWay rows (r .turn .0) (r .asked)) e)) refl refl))

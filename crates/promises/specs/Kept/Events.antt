@@ -1,0 +1,263 @@
+-- Every accepted event leaves a sound table.
+use Prim.Native.Nat.{ℕ, _+_, _-_, _^_, _<_, _≤_}
+use mathlib.Core.Bool.{Bool, true, false, cond}
+use mathlib.Core.List.{List}
+use mathlib.Core.Logic.{_≢_}
+use mathlib.Core.Path.{_≡_, refl, sym, ap, _∙_}
+use native.Mathlib.Decide.{decLe}
+use native.Mathlib.Nat.{le-refl, lt-irrefl}
+use native.Mathlib.Omega.{arith}
+use borrow.Author.Tests.{ltb-false, eqb-false, lt-ltb, not-false}
+use lib.ListN.{length, set}
+use lib.Seq.{set-out}
+use Rattle.event.specs.declared.clock.Tick.{Tick}
+use Rattle.event.specs.declared.events.Event.{Event}
+use Rattle.event.specs.declared.events.Event.the-variants.{Beat, Open, Ask, Release, Complete}
+use Rattle.laws.specs.Cases.{case}
+use Rattle.laws.specs.Sets.{below, inside, meets, without}
+use Rattle.laws.specs.SetLaws.{inside-empty, inside-trans, meets-comm, meets-empty, meets-inside, without-inside, without-le}
+use Rattle.rows.specs.InWay.{in-way-empty, in-way-inside}
+use Rattle.rows.specs.Order.{ahead, idle, token, waiting}
+use Rattle.rows.specs.OrderLaws.{ahead-set, in-way-set}
+use Rattle.rows.specs.SweepLaws.{distinct-settled, row-settled, swept-idle}
+use Rattle.rows.specs.Sweep.{settled, swept}
+use Rattle.rows.specs.Turns.{at-set, distinct-rows, distinct-set, distinct-test, live-within, waiting-reads}
+use Rattle.rows.specs.declared.row.Row.{Row}
+use Rattle.arbiter.specs.Meaning.{accepted, askedRow, moved, openedRow, releasedRow, timeAt}
+use Rattle.arbiter.specs.declared.table.Table.{Table}
+use Rattle.promises.specs.Kept.Words.{Accepts, Acts, Asked, Decided, Swept, grants, waits, Alike, Clearer, Onward}
+use Rattle.promises.specs.Kept.Accepted.{ask-acts, complete-acts, open-idle, passed, release-acts, was-sound}
+use Rattle.promises.specs.Kept.Decisions.{asks, sweeps}
+use Rattle.promises.specs.Kept.Rows.{alike-clearer, alike-kept, alike-opened, alike-self, alike-settled, carried, decided, decided-alike}
+use Rattle.promises.specs.Sound.Words.{LiveRow, SoundRow, SoundTable, rowIn}
+use Rattle.promises.specs.Sound.Tests.{idle-sound}
+
+-- ---- What the five events leave
+
+module _ (t : Table) (tick : Tick) (p : SoundTable t) (in-time : timeAt t (tick .0) ≤ 2 ^ 63 - 1) where
+  onward : (last : ℕ) (rows : List Row) → t .last .0 ≤ last → Onward t (moved t (timeAt t (tick .0)) last rows)
+  onward last rows up = record { tokens = refl; resources = refl; time = omega arith; last = up }
+
+  -- the rows are left as they are
+  timed-kept : (last : ℕ) → t .last .0 ≤ last → last ≤ 2 ^ 63 - 1 → SoundTable (moved t (timeAt t (tick .0)) last (t .rows))
+  timed-kept last up high = record {
+    ranges = p .ranges;
+    time = in-time;
+    last = high;
+    distinct = p .distinct;
+    rows = λ k. record {
+      idles = p .rows k .idles;
+      lives = λ l. carried (onward last (t .rows) up) alike-self (p .rows k .lives l);
+    };
+  }
+
+  -- row j becomes r: a sound table, if r is live and sound in it, no other row has its turn, and the other rows look on alike rows
+  set-kept :
+      (last j : ℕ) (r : Row) → j < length (t .rows) → t .last .0 ≤ last → last ≤ 2 ^ 63 - 1 →
+      0 < r .turn .0 → ((k : ℕ) → k ≢ j → rowIn t k .turn .0 ≢ r .turn .0) →
+      ((n : ℕ) → n ≤ t .last .0 → Alike (t .rows) (set (t .rows) j r) n) →
+      LiveRow (moved t (timeAt t (tick .0)) last (set (t .rows) j r)) r → SoundTable (moved t (timeAt t (tick .0)) last (set (t .rows) j r))
+  set-kept last j r h up high alive alone alike q = record {
+    ranges = p .ranges;
+    time = in-time;
+    last = high;
+    distinct = distinct-set (t .rows) j r h (p .distinct) (λ k ne _. alone k ne);
+    rows =
+        at-set (λ _ r′. SoundRow (moved t (timeAt t (tick .0)) last (set (t .rows) j r)) r′) (t .rows) j r h
+        (record { idles = λ z. absurd (omega arith); lives = λ _. q })
+        (λ k _. record {
+          idles = p .rows k .idles;
+          lives = λ l.
+              let old = p .rows k .lives l in
+              carried (onward last (set (t .rows) j r) up) (alike (rowIn t k .turn .0) (old .given)) old;
+        });
+  }
+
+  opened-within :
+      (j s : ℕ) → j < length (t .rows) → rowIn t j .turn .0 ≡ 0 → 0 < s → below s (t .resources) ≡ true →
+      t .last .0 < 2 ^ 63 - 1 → SoundTable (accepted t (Open j tick s))
+  opened-within j s h was some in-range room =
+      set-kept (t .last .0 + 1) j (openedRow t (timeAt t (tick .0)) s) h (omega arith) (omega arith) (omega arith) alone
+      (λ n low. alike n (omega arith)) opened
+    where
+      alike : (n : ℕ) → n ≤ t .last .0 + 1 → Alike (t .rows) (accepted t (Open j tick s) .rows) n
+      alike n low = alike-opened (t .rows) j (openedRow t (timeAt t (tick .0)) s) n (p .rows j .idles was) low
+
+      alone : (k : ℕ) → k ≢ j → rowIn t k .turn .0 ≢ t .last .0 + 1
+      alone k ne e = omega (arith, p .rows k .lives (omega arith) .given)
+
+      within : (b : Bool) → cond b 0 (timeAt t (tick .0)) ≤ timeAt t (tick .0)
+      within true = omega arith
+      within false = omega arith
+
+      opened : LiveRow (accepted t (Open j tick s)) (openedRow t (timeAt t (tick .0)) s)
+      opened = record {
+        given = le-refl _;
+        declares = some;
+        in-range = in-range;
+        held-declared = inside-empty s;
+        asked-declared = inside-empty s;
+        apart = meets-empty 0;
+        holds-by-token = λ _. refl;
+        asks-by-token = λ _. refl;
+        held-free = in-way-empty (accepted t (Open j tick s) .rows) (t .last .0 + 1);
+        asked-blocked = λ h. absurd (lt-irrefl 0 h);
+        waits-since = within (token (t .tokens) (t .rows) (t .last .0 + 1));
+        rests = λ h _.
+            let same = alike (t .last .0 + 1) (le-refl _) .same-ahead in
+            rw (lt-ltb (ahead (t .rows) (t .last .0 + 1)) (t .tokens) (omega arith));
+      }
+
+  -- a job past the rows has no row to set
+  opened-kept :
+      (j s : ℕ) → rowIn t j .turn .0 ≡ 0 → 0 < s → below s (t .resources) ≡ true → t .last .0 < 2 ^ 63 - 1 →
+      SoundTable (accepted t (Open j tick s))
+  opened-kept j s was some in-range room = go (decLe (length (t .rows)) j)
+    where
+      go : Dec (length (t .rows) ≤ j) → SoundTable (accepted t (Open j tick s))
+      go (yes out) =
+          rw (set-out (t .rows) j (openedRow t (timeAt t (tick .0)) s) out) (timed-kept (t .last .0 + 1) (omega arith) (omega arith))
+      go (no h) = opened-within j s (omega arith) was some in-range room
+
+  -- a live row that keeps turn and declared set, and is sound after
+  acted-kept :
+      (j : ℕ) (r : Row) → 0 < rowIn t j .turn .0 → r .turn .0 ≡ rowIn t j .turn .0 →
+      r .declared ≡ rowIn t j .declared →
+      LiveRow (moved t (timeAt t (tick .0)) (t .last .0) (set (t .rows) j r)) r →
+      SoundTable (moved t (timeAt t (tick .0)) (t .last .0) (set (t .rows) j r))
+  acted-kept j r alive turn declared q =
+      let h = live-within (t .rows) j alive in
+      set-kept (t .last .0) j r h (le-refl _) (p .last) (omega arith) (λ k ne e. ne (sym (p .distinct j k alive (sym (e ∙ turn)))))
+      (λ n _. alike-kept (t .rows) j r n h turn declared) q
+
+  -- after an ask a row waits since now or not at all
+  asked-since :
+      {s : ℕ} {r r′ : Row} → LiveRow t r → ahead (t .rows) (r .turn .0) < t .tokens → r .asked ≡ 0 → 0 < s →
+      Asked t (timeAt t (tick .0)) s r r′ → (r′ .since ≤ timeAt t (tick .0)) × (r′ .asked ≡ 0 → r′ .since ≡ 0)
+  asked-since {s} {r} {r′} q has nothing some a = go (a .decided)
+    where
+      go : Decided (t .rows) s r (r′ .held) (r′ .asked) → (r′ .since ≤ timeAt t (tick .0)) × (r′ .asked ≡ 0 → r′ .since ≡ 0)
+      go (grants way h e) = omega (arith, a .goes-on way, q .rests has nothing)
+      go (waits way h e) = omega (arith, a .waits-now way)
+
+  asked-kept :
+      (j s : ℕ) → Acts t j → 0 < s → inside s (rowIn t j .declared) ≡ true → meets s (rowIn t j .held) ≡ false →
+      SoundTable (accepted t (Ask j tick s))
+  asked-kept j s may some s-declared s-apart =
+      let r = rowIn t j in
+      let q = p .rows j .lives (may .alive) in
+      let a = asks t (timeAt t (tick .0)) s r (may .nothing) in
+      let h = live-within (t .rows) j (may .alive) in
+      let alike = alike-kept (t .rows) j (askedRow t r (timeAt t (tick .0)) s) (r .turn .0) h (a .turn) (a .declared) in
+      let since = asked-since q (may .has) (may .nothing) some a in
+      acted-kept j (askedRow t r (timeAt t (tick .0)) s) (may .alive) (a .turn) (a .declared)
+      (decided (onward (t .last .0) (accepted t (Ask j tick s) .rows) (le-refl _)) (alike-clearer alike) q (a .turn) (a .declared)
+      s-declared (rw meets-comm s-apart) (λ late. absurd (omega (arith, may .has, alike .same-ahead))) (since .0) (λ _. since .1)
+      (decided-alike alike (a .decided)))
+
+  released-kept :
+      (j s : ℕ) → 0 < rowIn t j .turn .0 → SoundTable (accepted t (Release j tick s))
+  released-kept j s alive =
+      let h = live-within (t .rows) j alive in
+      let r = rowIn t j in
+      let q = p .rows j .lives alive in
+      let part = without-inside (r .held) s in
+      let alike = alike-kept (t .rows) j (releasedRow r s) (r .turn .0) h refl refl in
+      let c = carried (onward (t .last .0) (set (t .rows) j (releasedRow r s)) (le-refl _)) alike q in
+      acted-kept j (releasedRow r s) alive refl refl
+      (record {
+        given = c .given;
+        declares = c .declares;
+        in-range = c .in-range;
+        held-declared = inside-trans (without (r .held) s) (r .held) (r .declared) part (c .held-declared);
+        asked-declared = c .asked-declared;
+        apart = meets-inside (without (r .held) s) (r .held) (r .asked) part (c .apart);
+        holds-by-token = λ h. omega (arith, without-le (r .held) s, c .holds-by-token h);
+        asks-by-token = c .asks-by-token;
+        held-free =
+            in-way-inside (accepted t (Release j tick s) .rows) (r .turn .0) (without (r .held) s) (r .held) part (c .held-free);
+        asked-blocked = c .asked-blocked;
+        waits-since = c .waits-since;
+        rests = c .rests;
+      })
+
+-- ---- Complete
+
+-- the rows once the request of j is gone, before the sweep
+abbrev left : Table → ℕ → List Row
+left t j = set (t .rows) j idle
+
+module _ (t : Table) (tick : Tick) (p : SoundTable t) (in-time : timeAt t (tick .0) ≤ 2 ^ 63 - 1) (j : ℕ)
+    (h : j < length (t .rows)) where
+  settled-clearer : (n : ℕ) → Clearer (t .rows) (accepted t (Complete j tick) .rows) n
+  settled-clearer n = record {
+    less-ahead = omega (arith, alike-settled (t .tokens) (left t j) n .same-ahead, ahead-set (t .rows) j idle h n);
+    less-way = λ x. omega (arith, alike-settled (t .tokens) (left t j) n .same-way x, in-way-set (t .rows) j idle h n x);
+  }
+
+  swept-live :
+      {r r′ : Row} → 0 < r .turn .0 → LiveRow t r → Swept (t .tokens) (left t j) r r′ → LiveRow (accepted t (Complete j tick)) r′
+  swept-live {r} {r′} alive q w =
+      let clearer = settled-clearer (r .turn .0) in
+      decided (onward t tick p in-time (t .last .0) (accepted t (Complete j tick) .rows) (le-refl _)) clearer q (w .turn)
+      (w .declared) (q .asked-declared) (q .apart) (λ late. q .asks-by-token (omega (arith, clearer .less-ahead)))
+      (since (waiting (t .tokens) (left t j) r′) refl) rests
+      (decided-alike (alike-settled (t .tokens) (left t j) (r .turn .0)) (w .decided))
+    where
+      since : (b : Bool) → waiting (t .tokens) (left t j) r′ ≡ b → r′ .since ≤ timeAt t (tick .0)
+      since true e = omega (arith, w .since e, q .waits-since)
+      since false e = omega (arith, w .rests e)
+
+      rests : ahead (accepted t (Complete j tick) .rows) (r′ .turn .0) < t .tokens → r′ .asked ≡ 0 → r′ .since ≡ 0
+      rests has nothing =
+          w .rests
+          (waiting-reads (t .tokens) (left t j) r′ (omega (arith, w .turn)) .fails .1
+          (omega (arith, alike-settled (t .tokens) (left t j) (r′ .turn .0) .same-ahead), nothing))
+
+  swept-kept : {r : Row} → SoundRow t r → SoundRow (accepted t (Complete j tick)) (swept (t .tokens) (left t j) r)
+  swept-kept {r} q = record {
+    idles = λ z. ap (swept (t .tokens) (left t j)) (q .idles (sym (w .turn) ∙ z)) ∙ swept-idle (t .tokens) (left t j);
+    lives = λ l. let alive : 0 < r .turn .0 = omega (arith, w .turn) in swept-live alive (q .lives alive) w;
+  }
+    where
+      w : Swept (t .tokens) (left t j) r (swept (t .tokens) (left t j) r)
+      w = sweeps (t .tokens) (left t j) r
+
+  completed-kept : SoundTable (accepted t (Complete j tick))
+  completed-kept = record {
+    ranges = p .ranges;
+    time = in-time;
+    last = p .last;
+    distinct =
+        distinct-rows (settled (t .tokens) (left t j))
+        (distinct-settled (t .tokens) (left t j)
+        ∙ distinct-test (left t j) (distinct-set (t .rows) j idle h (p .distinct) (λ k ne l. absurd (lt-irrefl 0 l))));
+    rows = λ k.
+        rw (row-settled (t .tokens) (left t j) k)
+        (at-set (λ _ r. SoundRow (accepted t (Complete j tick)) (swept (t .tokens) (left t j) r)) (t .rows) j idle h
+        (swept-kept (idle-sound t)) (λ k _. swept-kept (p .rows k)) k);
+  }
+
+-- ---- Whatever the event
+
+pub accepted-kept : (n : ℕ) (t : Table) (e : Event) → Accepts n t e → SoundTable (accepted t e)
+unfolding case
+accepted-kept n t (Beat tick) ok =
+    let p = was-sound n t (Beat tick) ok in
+    timed-kept t tick p (ltb-false _ _ (passed n t (Beat tick) ok 6)) (t .last .0) (le-refl _) (p .last)
+accepted-kept n t (Open j tick s) ok =
+    let p = was-sound n t (Open j tick s) ok in
+    let off = passed n t (Open j tick s) ok in
+    opened-kept t tick p (ltb-false _ _ (off 6)) j s (open-idle n t j tick s ok) (omega (arith, eqb-false s 0 (off 11)))
+    (not-false _ (off 12)) (omega (arith, p .last, eqb-false (t .last .0) (2 ^ 63 - 1) (off 16)))
+accepted-kept n t (Ask j tick s) ok =
+    let off = passed n t (Ask j tick s) ok in
+    asked-kept t tick (was-sound n t (Ask j tick s) ok) (ltb-false _ _ (off 6)) j s (ask-acts n t j tick s ok)
+    (omega (arith, eqb-false s 0 (off 11))) (not-false _ (off 13)) (off 14)
+accepted-kept n t (Release j tick s) ok =
+    let off = passed n t (Release j tick s) ok in
+    released-kept t tick (was-sound n t (Release j tick s) ok) (ltb-false _ _ (off 6)) j s (release-acts n t j tick s ok .alive)
+accepted-kept n t (Complete j tick) ok =
+    let off = passed n t (Complete j tick) ok in
+    completed-kept t tick (was-sound n t (Complete j tick) ok) (ltb-false _ _ (off 6)) j
+    (live-within (t .rows) j (complete-acts n t j tick ok .alive))

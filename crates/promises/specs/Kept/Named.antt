@@ -1,0 +1,121 @@
+-- What accepted events do and never do, by name.
+use Prim.Native.Nat.{ℕ, _+_, _<_}
+use mathlib.Core.Bool.{Bool, true, false, cond, not, and-false}
+use mathlib.Core.Path.{_≡_, refl, ap, _∙_}
+use native.Mathlib.Omega.{arith}
+use borrow.Author.Tests.{ltb-true, lt-ltb, not-false}
+use lib.ListN.{length}
+use lib.Seq.{getD-set-same}
+use Rattle.event.specs.declared.clock.Tick.{Tick}
+use Rattle.event.specs.declared.events.Event.{Event}
+use Rattle.event.specs.declared.events.Event.the-variants.{Open, Ask, Release}
+use Rattle.laws.specs.CaseLaws.{acceptance-tells}
+use Rattle.laws.specs.Cases.{case, fine}
+use Rattle.laws.specs.Sets.{inside, member, without}
+use Rattle.laws.specs.SetLaws.{inside-reads, inside-trans, meets-reads, member-without}
+use Rattle.rows.specs.InWay.{InTheWay, in-way-at}
+use Rattle.event.specs.Limits.{jobs}
+use Rattle.rows.specs.Order.{blocked, idle, inWay, token}
+use Rattle.rows.specs.Turns.{live-within}
+use Rattle.rows.specs.declared.row.Row.{Row}
+use Rattle.arbiter.specs.Answers as Answers
+use Rattle.arbiter.specs.Meaning.{accepted, answer, askedRow, next, openedRow, releasedRow, timeAt, told}
+use Rattle.arbiter.specs.Refusals.{cases}
+use Rattle.arbiter.specs.declared.table.Table.{Table}
+use Rattle.promises.specs.Kept.Words.{Accepts, Asked, Decided, grants, waits}
+use Rattle.promises.specs.Kept.Accepted.{answer-accepted, ask-acts, next-accepted, open-below, passed, release-acts, was-sound}
+use Rattle.promises.specs.Kept.Decisions.{asks}
+use Rattle.promises.specs.Kept.Events.{accepted-kept}
+use Rattle.promises.specs.Sound.Words.{SoundTable, rowIn}
+
+pub next-kept : (n : ℕ) (t : Table) (e : Event) → Accepts n t e → SoundTable (next n t e)
+next-kept n t e ok = rw (next-accepted n t e ok) (accepted-kept n t e ok)
+
+-- ---- Ask
+
+module _ (n : ℕ) (t : Table) (j : ℕ) (tick : Tick) (s : ℕ) (ok : Accepts n t (Ask j tick s)) where
+  -- what it leaves of its row
+  pub asked : Asked t (timeAt t (tick .0)) s (rowIn t j) (rowIn (accepted t (Ask j tick s)) j)
+  asked =
+      let a = ask-acts n t j tick s ok in
+      rw (getD-set-same (t .rows) j (askedRow t (rowIn t j) (timeAt t (tick .0)) s) idle (live-within (t .rows) j (a .alive)))
+      (asks t (timeAt t (tick .0)) s (rowIn t j) (a .nothing))
+
+  -- an accepted ask is granted as a whole or waits as a whole, as Q3 decides
+  pub ask-whole :
+      Decided (t .rows) s (rowIn t j) (rowIn (next n t (Ask j tick s)) j .held) (rowIn (next n t (Ask j tick s)) j .asked)
+  ask-whole = rw (next-accepted n t (Ask j tick s) ok) (asked .decided)
+
+  -- a resource that an older live request has declared is not handed out, free or not: the ask waits, and nothing more is held
+  pub older-goes-first :
+      InTheWay (t .rows) (rowIn t j .turn .0) s →
+      (answer n t (Ask j tick s) ≡ fine Answers.wait) × (rowIn (next n t (Ask j tick s)) j .held ≡ rowIn t j .held)
+  older-goes-first w =
+      let way = in-way-at (t .rows) (rowIn t j .turn .0) s w in
+      (rw (answer-accepted n t (Ask j tick s) ok, lt-ltb 0 (inWay (t .rows) (rowIn t j .turn .0) s) way) refl, held ask-whole)
+    where
+      held : {h a : ℕ} → Decided (t .rows) s (rowIn t j) h a → h ≡ rowIn t j .held
+      held (grants way _ _) = absurd (omega (arith, in-way-at (t .rows) (rowIn t j .turn .0) s w))
+      held (waits _ h _) = h
+
+-- ---- Since when a wait counts
+
+-- an open that says "wait" waits from the true time after its own tick
+pub open-waits-from-now :
+    (n : ℕ) (t : Table) (j : ℕ) (tick : Tick) (s : ℕ) → length (t .rows) ≡ jobs → answer n t (Open j tick s) ≡ fine Answers.wait →
+    rowIn (next n t (Open j tick s)) j .since ≡ next n t (Open j tick s) .time
+unfolding answer
+open-waits-from-now n t j tick s full e =
+    let said = acceptance-tells {B = ℕ} (cases n t (Open j tick s)) (told t (Open j tick s)) Answers.wait e in
+    let within = open-below n t j tick s (said .0) in
+    rw (next-accepted n t (Open j tick s) (said .0), getD-set-same (t .rows) j (openedRow t (timeAt t (tick .0)) s) idle (omega arith))
+    (rw (go (token (t .tokens) (t .rows) (t .last .0 + 1)) (said .1)))
+  where
+    go : (b : Bool) → cond b Answers.token Answers.wait ≡ Answers.wait → b ≡ false
+    go true f = let z : _≡_ {A = ℕ} 0 1 = cc in absurd (omega arith)
+    go false f = refl
+
+-- so does an ask
+pub ask-waits-from-now :
+    (n : ℕ) (t : Table) (j : ℕ) (tick : Tick) (s : ℕ) → answer n t (Ask j tick s) ≡ fine Answers.wait →
+    rowIn (next n t (Ask j tick s)) j .since ≡ next n t (Ask j tick s) .time
+unfolding answer
+ask-waits-from-now n t j tick s e =
+    let said = acceptance-tells {B = ℕ} (cases n t (Ask j tick s)) (told t (Ask j tick s)) Answers.wait e in
+    rw (next-accepted n t (Ask j tick s) (said .0))
+    (asked n t j tick s (said .0) .waits-now (go (blocked (t .rows) (rowIn t j .turn .0) s) refl (said .1)))
+  where
+    go :
+        (b : Bool) → blocked (t .rows) (rowIn t j .turn .0) s ≡ b → cond b Answers.wait Answers.granted ≡ Answers.wait →
+        0 < inWay (t .rows) (rowIn t j .turn .0) s
+    go true f e = ltb-true 0 (inWay (t .rows) (rowIn t j .turn .0) s) f
+    go false f e = let z : _≡_ {A = ℕ} 0 1 = cc in absurd (omega arith)
+
+-- ---- Release
+
+module _ (n : ℕ) (t : Table) (j : ℕ) (tick : Tick) (s : ℕ) (ok : Accepts n t (Release j tick s)) where
+  released : rowIn (next n t (Release j tick s)) j ≡ releasedRow (rowIn t j) s
+  released =
+      ap (λ (u : Table). rowIn u j) (next-accepted n t (Release j tick s) ok)
+      ∙ getD-set-same (t .rows) j (releasedRow (rowIn t j) s) idle (live-within (t .rows) j (release-acts n t j tick s ok .alive))
+
+  -- a release leaves the declared set whole
+  pub release-keeps-declared : rowIn (next n t (Release j tick s)) j .declared ≡ rowIn t j .declared
+  release-keeps-declared = ap (λ (r : Row). r .declared) released
+
+  -- and any part of what was released may be asked for again: 13 and 14 do not apply
+  pub release-asks-again :
+      (m : ℕ) (later : Tick) (x : ℕ) → inside x s ≡ true →
+      (case 13 (cases m (next n t (Release j tick s)) (Ask j later x)) ≡ false)
+      × (case 14 (cases m (next n t (Release j tick s)) (Ask j later x)) ≡ false)
+  unfolding case
+  release-asks-again m later x part =
+      let r = rowIn t j in
+      let e = Release j tick s in
+      let was-held = not-false (inside s (r .held)) (passed n t e ok 15) in
+      let declared = was-sound n t e ok .rows j .lives (release-acts n t j tick s ok .alive) .held-declared in
+      rw released (
+        ap not (inside-trans x s (r .declared) part (inside-trans s (r .held) (r .declared) was-held declared)),
+        meets-reads x (without (r .held) s) .fails .1
+            (λ a m. rw (member-without (r .held) s a, inside-reads x s .holds .0 part a m) (and-false (member (r .held) a))),
+      )

@@ -1,0 +1,134 @@
+-- When a row stays sound, though the table around it moves on.
+use Prim.Native.Nat.{ℕ, _<_, _≤_}
+use mathlib.Core.Bool.{Bool, true, false, not, _&&_, _||_}
+use mathlib.Core.List.{List}
+use mathlib.Core.Path.{_≡_, refl, sym, ap, _∙_}
+use native.Mathlib.Decide.{decLe}
+use native.Mathlib.Nat.{le-of-eq}
+use native.Mathlib.Omega.{arith}
+use lib.Dec.{ltb}
+use lib.ListN.{length, set}
+use lib.Seq.{set-out}
+use Rattle.laws.specs.Bools.{bit}
+use Rattle.laws.specs.Sets.{inside, meets}
+use Rattle.laws.specs.SetLaws.{inside-empty, inside-union, meets-empty, union-self}
+use Rattle.rows.specs.InWay.{in-way-union}
+use Rattle.rows.specs.Line.{rowOf}
+use Rattle.rows.specs.Order.{ahead, claims, earlier, idle, live, waiting}
+use Rattle.rows.specs.OrderLaws.{ahead-set, in-way-set}
+use Rattle.rows.specs.SweepLaws.{ahead-settled, in-way-settled}
+use Rattle.rows.specs.Sweep.{settled}
+use Rattle.rows.specs.Turns.{not-earlier}
+use Rattle.rows.specs.declared.row.Row.{Row}
+use Rattle.arbiter.specs.declared.table.Table.{Table}
+use Rattle.promises.specs.Kept.Words.{Decided, grants, waits, Alike, Onward, Clearer}
+use Rattle.promises.specs.Sound.Words.{LiveRow}
+
+pub alike-self : {rows : List Row} {n : ℕ} → Alike rows rows n
+alike-self = record { same-ahead = refl; same-way = λ x. refl }
+
+-- a row set at j is no other to look on, from turn n, if it keeps turn and declared set
+pub alike-kept :
+    (rows : List Row) (j : ℕ) (r : Row) (n : ℕ) → j < length rows → r .turn .0 ≡ rowOf rows j .turn .0 →
+    r .declared ≡ rowOf rows j .declared → Alike rows (set rows j r) n
+alike-kept rows j r n h turn declared = record {
+  same-ahead = omega (arith, ahead-set rows j r h n, ap (λ (m : ℕ). bit (ltb 0 m && ltb m n)) turn);
+  same-way = λ x. omega (arith, in-way-set rows j r h n x, same x);
+}
+  where
+    same : (x : ℕ) → bit (claims n x r) ≡ bit (claims n x (rowOf rows j))
+    same x = λ i. bit (ltb 0 (turn i) && ltb (turn i) n && meets (declared i) x)
+
+-- or if it was idle, or no row, and now has a turn no lower than n
+pub alike-opened : (rows : List Row) (j : ℕ) (r : Row) (n : ℕ) → rowOf rows j ≡ idle → n ≤ r .turn .0 → Alike rows (set rows j r) n
+alike-opened rows j r n was late = go (decLe (length rows) j)
+  where
+    later : earlier n r ≡ false
+    later = not-earlier n r late
+
+    go : Dec (length rows ≤ j) → Alike rows (set rows j r) n
+    go (yes out) = rw (set-out rows j r out) alike-self
+    go (no h) = record {
+      same-ahead = omega (arith, ahead-set rows j r (omega arith) n, ap bit later, ap (λ (r : Row). bit (earlier n r)) was);
+      same-way = λ x.
+          let none = ap (λ (r : Row). bit (claims n x r)) was in
+          let none′ = ap (λ (b : Bool). bit (b && meets (r .declared) x)) later in
+          omega (arith, in-way-set rows j r (omega arith) n x);
+    }
+
+-- swept rows look alike from any turn
+pub alike-settled : (T : ℕ) (rows : List Row) (n : ℕ) → Alike rows (settled T rows) n
+alike-settled T rows n = record { same-ahead = sym (ahead-settled T rows n); same-way = λ x. sym (in-way-settled T rows n x) }
+
+-- who waits is the same on alike rows
+pub waiting-alike : {rows rows′ : List Row} (T : ℕ) (r : Row) → Alike rows rows′ (r .turn .0) → waiting T rows r ≡ waiting T rows′ r
+waiting-alike T r a = ap (λ (n : ℕ). live r && (not (ltb n T) || ltb 0 (r .asked))) (a .same-ahead)
+
+-- what Q3 decides on alike rows is the same
+pub decided-alike :
+    {rows rows′ : List Row} {s held asked : ℕ} {r : Row} → Alike rows rows′ (r .turn .0) → Decided rows s r held asked →
+    Decided rows′ s r held asked
+decided-alike {s} a (grants way h e) = grants (omega (arith, a .same-way s, way)) h e
+decided-alike {s} a (waits way h e) = waits (omega (arith, a .same-way s, way)) h e
+
+-- a row that is left as it is stays sound where its turn looks on alike rows
+pub carried : {t u : Table} {r : Row} → Onward t u → Alike (t .rows) (u .rows) (r .turn .0) → LiveRow t r → LiveRow u r
+carried {t} {u} {r} o a p = record {
+  given = omega arith;
+  declares = p .declares;
+  in-range = rw (o .resources) at (p .in-range);
+  held-declared = p .held-declared;
+  asked-declared = p .asked-declared;
+  apart = p .apart;
+  holds-by-token = λ h. p .holds-by-token (omega arith);
+  asks-by-token = λ h. p .asks-by-token (omega arith);
+  held-free = sym (a .same-way (r .held)) ∙ p .held-free;
+  asked-blocked = λ h. omega (arith, a .same-way (r .asked), p .asked-blocked h);
+  waits-since = omega arith;
+  rests = λ h. p .rests (omega arith);
+}
+
+pub alike-clearer : {rows rows′ : List Row} {n : ℕ} → Alike rows rows′ n → Clearer rows rows′ n
+alike-clearer a = record { less-ahead = le-of-eq (sym (a .same-ahead)); less-way = λ x. le-of-eq (sym (a .same-way x)) }
+
+-- what Q3 decides on a set s leaves a row sound, if s is declared, apart from what is held, and empty without a token
+pub decided :
+    {t u : Table} {r r′ : Row} {s : ℕ} → Onward t u → Clearer (t .rows) (u .rows) (r .turn .0) → LiveRow t r →
+    r′ .turn .0 ≡ r .turn .0 → r′ .declared ≡ r .declared → inside s (r .declared) ≡ true → meets (r .held) s ≡ false →
+    (u .tokens ≤ ahead (u .rows) (r .turn .0) → s ≡ 0) → r′ .since ≤ u .time →
+    (ahead (u .rows) (r′ .turn .0) < u .tokens → r′ .asked ≡ 0 → r′ .since ≡ 0) →
+    Decided (u .rows) s r (r′ .held) (r′ .asked) → LiveRow u r′
+decided {u} {r} {s} o c p turn declared s-declared s-apart by-token in-time rests (grants way held asked) = record {
+  given = omega arith;
+  declares = omega (arith, p .declares);
+  in-range = rw (declared, ← o .resources) (p .in-range);
+  held-declared = rw (declared, held) (inside-union (r .held) s (r .declared) .1 (p .held-declared, s-declared));
+  asked-declared = rw asked (inside-empty _);
+  apart = rw asked (meets-empty _);
+  holds-by-token = λ h.
+      let late : u .tokens ≤ ahead (u .rows) (r .turn .0) = rw turn at h in
+      rw (held, p .holds-by-token (omega arith), by-token late) (union-self 0);
+  asks-by-token = λ h. asked;
+  held-free =
+      rw (turn, held)
+      (in-way-union (u .rows) (r .turn .0) (r .held) s (omega (arith, c .less-way (r .held), p .held-free)) way);
+  asked-blocked = λ h. absurd (omega arith);
+  waits-since = in-time;
+  rests = rests;
+}
+decided {u} {r} {s} o c p turn declared s-declared s-apart by-token in-time rests (waits way held asked) = record {
+  given = omega arith;
+  declares = omega (arith, p .declares);
+  in-range = rw (declared, ← o .resources) (p .in-range);
+  held-declared = rw (declared, held) (p .held-declared);
+  asked-declared = rw (declared, asked) s-declared;
+  apart = rw (held, asked) s-apart;
+  holds-by-token = λ h.
+      let late : u .tokens ≤ ahead (u .rows) (r .turn .0) = rw turn at h in
+      held ∙ p .holds-by-token (omega arith);
+  asks-by-token = λ h. asked ∙ by-token (rw turn at h);
+  held-free = rw (turn, held) (omega (arith, c .less-way (r .held), p .held-free));
+  asked-blocked = λ h. rw (turn, asked) way;
+  waits-since = in-time;
+  rests = rests;
+}

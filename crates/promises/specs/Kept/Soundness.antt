@@ -1,0 +1,117 @@
+-- Soundness is kept: every table that calls lead to from an accepted start is sound, so none is ever refused as 3.
+use Prim.Native.Nat.{ℕ, zero, suc, _^_, _<_}
+use mathlib.Core.Bool.{true, not, true≢false}
+use mathlib.Core.List.{List, [], _∷_}
+use mathlib.Core.Path.{_≡_, refl, sym, ap, _∙_}
+use native.Mathlib.Omega.{arith}
+use borrow.Author.Tests.{not-false}
+use lib.ListN.{replicate}
+use Rattle.event.specs.declared.events.Event.{Event}
+use Rattle.laws.specs.Cases.{Case, ascending, case, first, leaves, outcome, refused, fine, keepUnless}
+use Rattle.laws.specs.CaseLaws.{acceptance-tells, clear, first-applies, refusal-tells}
+use Rattle.rows.specs.Line.{rowOf}
+use Rattle.event.specs.Limits.{jobs}
+use Rattle.rows.specs.Order.{idle}
+use Rattle.rows.specs.declared.row.Row.{Row}
+use Rattle.arbiter.specs.Answers as Answers
+use Rattle.arbiter.specs.Meaning.{accepted, answer, freshTable, next, noTable, overdue, report, run, startAnswer, startTable}
+use Rattle.arbiter.specs.Refusals.{cases, overdueCases, reportCases, startCases}
+use Rattle.arbiter.specs.RefusalLaws.{cases-ascend, overdue-ascends, report-ascends, start-ascends}
+use Rattle.arbiter.specs.Sound.{holds, ranges, sound}
+use Rattle.arbiter.specs.declared.table.Table.{Table}
+use Rattle.promises.specs.Kept.Words.{Accepts, NeverUnsound}
+use Rattle.promises.specs.Kept.Accepted.{case-unsound, leaves-new}
+use Rattle.promises.specs.Kept.Events.{accepted-kept}
+use Rattle.promises.specs.Sound.Tests.{idle-sound, ranges-in, sound-table}
+
+-- what a call leaves has a property that the old value has, and the new one if no case applies
+left-with :
+    {A : Type 0} (P : A → Type 0) (cs : List Case) (old new : A) → P old → (first cs ≡ 0 → P new) → P (leaves cs old new)
+unfolding leaves
+left-with {A} P cs old new p q = go (first cs) q
+  where
+    go : (k : ℕ) → (k ≡ 0 → P new) → P (keepUnless k old new)
+    go zero q = q refl
+    go (suc k) q = p
+
+-- an accepted event gives a sound table
+pub accepted-sound : (n : ℕ) (t : Table) (e : Event) → Accepts n t e → sound (accepted t e) ≡ true
+accepted-sound n t e ok = sound-table (accepted t e) (accepted-kept n t e ok)
+
+-- any event, refused or not, leaves a sound table sound
+pub next-sound : (n : ℕ) (t : Table) (e : Event) → sound t ≡ true → sound (next n t e) ≡ true
+unfolding next
+next-sound n t e p = left-with (λ u. sound u ≡ true) (cases n t e) t (accepted t e) p (accepted-sound n t e)
+
+-- so does any sequence of events
+pub events-sound : (t : Table) (es : List Event) → sound t ≡ true → sound (run t es) ≡ true
+unfolding run
+events-sound t [] p = p
+events-sound t (e ∷ es) p = events-sound (next jobs t e) es (next-sound jobs t e p)
+
+idle-rows : (n k : ℕ) → rowOf (replicate n idle) k ≡ idle
+idle-rows zero k = refl
+idle-rows (suc n) zero = refl
+idle-rows (suc n) (suc k) = idle-rows n k
+
+-- a fresh table is sound
+pub fresh-sound :
+    (T R tick limit : ℕ) → holds (ranges T R limit) ≡ true → tick < 2 ^ 32 → sound (freshTable T R tick limit) ≡ true
+fresh-sound T R tick limit e h =
+    sound-table (freshTable T R tick limit)
+    (record {
+      ranges = ranges-in T R limit e;
+      time = omega arith;
+      last = omega arith;
+      distinct = λ j k alive same. absurd (omega (arith, ap (λ (r : Row). r .turn .0) (idle-rows jobs j)));
+      rows = λ k. rw (idle-rows jobs k) (idle-sound (freshTable T R tick limit));
+    })
+
+-- an accepted start has numbers in range, and gives a fresh table
+module _ (T R limit : ℕ) (started : startAnswer T R limit ≡ fine Answers.done) where
+  unrefused : first (startCases T R limit) ≡ 0
+  unfolding startAnswer
+  unrefused = acceptance-tells {B = ℕ} (startCases T R limit) Answers.done Answers.done started .0
+
+  pub start-ranges : holds (ranges T R limit) ≡ true
+  unfolding case
+  start-ranges = not-false (holds (ranges T R limit)) (clear 0 1 (startCases T R limit) (start-ascends T R limit) unrefused)
+
+  pub start-fresh : (tick : ℕ) → startTable T R tick limit ≡ freshTable T R tick limit
+  unfolding startTable
+  start-fresh tick = leaves-new (startCases T R limit) noTable (freshTable T R tick limit) unrefused
+
+-- so a sound one
+pub start-sound :
+    (T R tick limit : ℕ) → tick < 2 ^ 32 → startAnswer T R limit ≡ fine Answers.done → sound (startTable T R tick limit) ≡ true
+start-sound T R tick limit h e = rw (start-fresh T R limit e tick) (fresh-sound T R tick limit (start-ranges T R limit e) h)
+
+-- every table that events lead to from an accepted start is sound
+pub run-sound :
+    (T R tick limit : ℕ) → tick < 2 ^ 32 → startAnswer T R limit ≡ fine Answers.done → (es : List Event) →
+    sound (run (startTable T R tick limit) es) ≡ true
+run-sound T R tick limit h ok es = events-sound (startTable T R tick limit) es (start-sound T R tick limit h ok)
+
+-- ---- Refusal 3
+
+-- a refusal is the number of a case that applies
+refused-by :
+    {A : Type 0} (k : ℕ) (cs : List Case) (a : A) → ascending cs ≡ true → outcome cs a ≡ refused (suc k) → case (suc k) cs ≡ true
+refused-by {A} k cs a up e =
+    let found = refusal-tells {B = A} cs a (suc k) e .0 in
+    rw found at (first-applies 0 cs up (rw found (omega arith)))
+
+-- none on a sound table is
+pub never-unsound : (t : Table) → sound t ≡ true → NeverUnsound t
+unfolding answer report overdue case
+never-unsound t p = record {
+  event = λ n e f. true≢false (sym (refused-by 2 (cases n t e) _ (cases-ascend n t e) f) ∙ case-unsound n t e ∙ ap not p);
+  report = λ j f. true≢false (sym (refused-by 2 (reportCases t j) _ (report-ascends t j) f) ∙ ap not p);
+  overdue = λ n tick f. true≢false (sym (refused-by 2 (overdueCases n t tick) _ (overdue-ascends n t tick) f) ∙ ap not p);
+}
+
+-- so none that events lead to from an accepted start is
+pub run-never-unsound :
+    (T R tick limit : ℕ) → tick < 2 ^ 32 → startAnswer T R limit ≡ fine Answers.done → (es : List Event) →
+    NeverUnsound (run (startTable T R tick limit) es)
+run-never-unsound T R tick limit h ok es = never-unsound (run (startTable T R tick limit) es) (run-sound T R tick limit h ok es)

@@ -1,0 +1,197 @@
+-- Whom an accepted event wakes, and what becomes of a wait.
+use Prim.Native.Nat.{ℕ, _<_}
+use mathlib.Core.Bool.{Bool, true, false, cond, not, _&&_, and-not-self, true≢false, false≢true}
+use mathlib.Core.List.{List, [], _∷_, List·Memᴰ, List·Memᴰ·cases-cons, List·Memᴰ·not-nil}
+use mathlib.Core.Logic.{_⊎_, inl, inr}
+use mathlib.Core.Path.{_≡_, refl, sym, ap, subst, _∙_}
+use native.Mathlib.Decide.{decLt, ℕ-discrete}
+use native.Mathlib.Omega.{arith}
+use borrow.Author.Tests.{eq-eqb, not-true}
+use lib.ListN.{getD, set}
+use lib.Seq.{getD-set-other}
+use Rattle.event.specs.declared.clock.Tick.{Tick}
+use Rattle.event.specs.declared.events.Event.{Event}
+use Rattle.event.specs.declared.events.Event.the-variants.{Beat, Open, Ask, Release, Complete}
+use Rattle.laws.specs.BoolLaws.{and-right}
+use Rattle.rows.specs.LineLaws.{Each, each-head, each-tail}
+use Rattle.rows.specs.Line.{keep, line}
+use Rattle.rows.specs.Order.{idle, waiting}
+use Rattle.rows.specs.SweepLaws.{row-settled}
+use Rattle.rows.specs.Sweep.{swept, woken}
+use Rattle.rows.specs.Turns.{live-within, waiting-reads}
+use Rattle.rows.specs.declared.row.Row.{Row}
+use Rattle.arbiter.specs.Meaning.{accepted, askedRow, next, openedRow, releasedRow, timeAt, wakes}
+use Rattle.arbiter.specs.declared.table.Table.{Table}
+use Rattle.promises.specs.History.Words.{names}
+use Rattle.promises.specs.Kept.Words.{Accepts, Acts, Decided, Swept, waits, completes, Fate, same, acted, stayed}
+use Rattle.promises.specs.Kept.Accepted.{actor-rests, ask-acts, complete-acts, idle-rests, next-accepted, next-tokens, open-idle, release-acts, was-sound}
+use Rattle.promises.specs.Kept.Decisions.{asks, sweeps}
+use Rattle.promises.specs.Kept.Named.{next-kept}
+use Rattle.promises.specs.Kept.Rows.{alike-kept, alike-opened, alike-self, alike-settled, decided-alike, waiting-alike}
+use Rattle.promises.specs.Sound.Words.{SoundTable, rowIn}
+use Rattle.promises.specs.Sound.Facts.{not-idle, turns-given}
+
+-- ---- What becomes of a row
+
+-- where row j is set to r by an actor and keeps turn and declared set
+actor-fate :
+    (t : Table) (e : Event) (j : ℕ) (r : Row) → accepted t e .rows ≡ set (t .rows) j r → names j e ≡ true → Acts t j →
+    r .turn .0 ≡ rowIn t j .turn .0 → r .declared ≡ rowIn t j .declared → (k : ℕ) → Fate t e k
+actor-fate t e j r rows named a turn declared k = go (ℕ-discrete k j)
+  where
+    go : Dec (k ≡ j) → Fate t e k
+    go (yes q) = acted (rw q named) (rw q (actor-rests a))
+    go (no q) =
+        same (rw rows (getD-set-other (t .rows) j k r idle q))
+        (rw rows (alike-kept (t .rows) j r (rowIn t k .turn .0) (live-within (t .rows) j (a .alive)) turn declared))
+
+pub fate : (n : ℕ) (t : Table) (e : Event) → Accepts n t e → (k : ℕ) → Fate t e k
+fate n t (Beat tick) ok k = same refl alike-self
+fate n t (Open j tick s) ok k = go (ℕ-discrete k j)
+  where
+    p : SoundTable t
+    p = was-sound n t (Open j tick s) ok
+
+    was : rowIn t j .turn .0 ≡ 0
+    was = open-idle n t j tick s ok
+
+    go : Dec (k ≡ j) → Fate t (Open j tick s) k
+    go (yes e) = acted (eq-eqb j k (sym e)) (rw e (idle-rests t j was))
+    go (no e) =
+        same (getD-set-other (t .rows) j k (openedRow t (timeAt t (tick .0)) s) idle e)
+        (alike-opened (t .rows) j (openedRow t (timeAt t (tick .0)) s) (rowIn t k .turn .0) (p .rows j .idles was)
+        (omega (arith, turns-given p k)))
+fate n t (Ask j tick s) ok k =
+    let a = ask-acts n t j tick s ok in
+    let said = asks t (timeAt t (tick .0)) s (rowIn t j) (a .nothing) in
+    actor-fate t (Ask j tick s) j (askedRow t (rowIn t j) (timeAt t (tick .0)) s) refl (eq-eqb j j refl) a (said .turn) (said .declared) k
+fate n t (Release j tick s) ok k =
+    actor-fate t (Release j tick s) j (releasedRow (rowIn t j) s) refl (eq-eqb j j refl) (release-acts n t j tick s ok) refl refl k
+fate n t (Complete j tick) ok k = go (ℕ-discrete k j)
+  where
+    go : Dec (k ≡ j) → Fate t (Complete j tick) k
+    go (yes e) = acted (eq-eqb j k (sym e)) (rw e (actor-rests (complete-acts n t j tick ok)))
+    go (no e) =
+        let left = set (t .rows) j idle in
+        stayed refl left
+        (row-settled (t .tokens) left k ∙ ap (swept (t .tokens) left) (getD-set-other (t .rows) j k idle idle e))
+        (alike-settled (t .tokens) left (rowIn t k .turn .0))
+
+-- ---- Who is woken
+
+-- what a filter keeps passes the test; where nothing passes it keeps nothing
+keep-passes : (f : ℕ → Bool) (js : List ℕ) {k : ℕ} → List·Memᴰ k (keep f js) → f k ≡ true
+unfolding keep
+keep-passes f [] m = absurd (List·Memᴰ·not-nil m)
+keep-passes f (j ∷ js) {k} m = go (f j) refl (keep-passes f js) m
+  where
+    cons : f j ≡ true → (List·Memᴰ k (keep f js) → f k ≡ true) → (k ≡ j) ⊎ List·Memᴰ k (keep f js) → f k ≡ true
+    cons e more (inl p) = rw p e
+    cons e more (inr m) = more m
+
+    go :
+        (b : Bool) → f j ≡ b → (List·Memᴰ k (keep f js) → f k ≡ true) → List·Memᴰ k (cond b (j ∷ keep f js) (keep f js)) →
+        f k ≡ true
+    go true e more m = cons e more (List·Memᴰ·cases-cons m)
+    go false e more m = more m
+
+pub keep-none : (f : ℕ → Bool) (js : List ℕ) → Each (λ j. f j ≡ false) js → keep f js ≡ []
+unfolding keep
+keep-none f [] none = refl
+keep-none f (j ∷ js) none =
+    rw (each-head (λ k. f k ≡ false) j js none) (keep-none f js (each-tail (λ k. f k ≡ false) j js none))
+
+-- nobody is woken but by a completion
+pub only-completions-wake :
+    (n : ℕ) (t : Table) (e : Event) → Accepts n t e → completes e ≡ false →
+    woken (t .tokens) (t .rows) (next n t e .rows) ≡ []
+unfolding woken
+only-completions-wake n t e ok other =
+    let jobs = line (accepted t e .rows) in
+    rw (next-accepted n t e ok) (keep-none _ jobs (λ i inside. go (getD jobs i 0) (fate n t e ok (getD jobs i 0))))
+  where
+    go :
+        (k : ℕ) → Fate t e k →
+        (waiting (t .tokens) (t .rows) (rowIn t k) && not (waiting (t .tokens) (accepted t e .rows) (rowIn (accepted t e) k)))
+        ≡ false
+    go k (same row alike) =
+        rw (row, ← waiting-alike (t .tokens) (rowIn t k) alike) (and-not-self (waiting (t .tokens) (t .rows) (rowIn t k)))
+    go k (acted _ rests) = rw rests
+    go k (stayed c _ _ _) = absurd (false≢true (sym other ∙ c))
+
+-- so a release wakes nobody
+pub release-wakes-nobody :
+    (n : ℕ) (t : Table) (j : ℕ) (tick : Tick) (s : ℕ) → Accepts n t (Release j tick s) →
+    woken (t .tokens) (t .rows) (next n t (Release j tick s) .rows) ≡ []
+release-wakes-nobody n t j tick s ok = only-completions-wake n t (Release j tick s) ok refl
+
+-- the list of the woken is what it says, for every event: those who waited before and do not wait after
+pub wakes-woken :
+    (n : ℕ) (t : Table) (e : Event) → Accepts n t e → wakes t e ≡ woken (t .tokens) (t .rows) (next n t e .rows)
+wakes-woken n t (Beat tick) ok = sym (only-completions-wake n t (Beat tick) ok refl)
+wakes-woken n t (Open j tick s) ok = sym (only-completions-wake n t (Open j tick s) ok refl)
+wakes-woken n t (Ask j tick s) ok = sym (only-completions-wake n t (Ask j tick s) ok refl)
+wakes-woken n t (Release j tick s) ok = sym (only-completions-wake n t (Release j tick s) ok refl)
+wakes-woken n t (Complete j tick) ok = rw (next-accepted n t (Complete j tick) ok)
+
+-- ---- Waiting times
+
+-- in a sound table whoever does not wait has no waiting time
+rest-clears : (t : Table) → SoundTable t → (k : ℕ) → waiting (t .tokens) (t .rows) (rowIn t k) ≡ false → rowIn t k .since ≡ 0
+rest-clears t p k rests = go (decLt 0 (rowIn t k .turn .0))
+  where
+    go : Dec (0 < rowIn t k .turn .0) → rowIn t k .since ≡ 0
+    go (yes alive) =
+        let r = waiting-reads (t .tokens) (t .rows) (rowIn t k) alive .fails .0 rests in
+        p .rows k .lives alive .rests (r .0) (r .1)
+    go (no idles) = ap (λ (r : Row). r .since) (p .rows k .idles (omega arith))
+
+module _ (n : ℕ) (t : Table) (e : Event) (ok : Accepts n t e) (k : ℕ) where
+  -- waking clears the waiting time
+  pub waking-clears : List·Memᴰ k (wakes t e) → rowIn (next n t e) k .since ≡ 0
+  unfolding woken
+  waking-clears m =
+      let passes = keep-passes _ (line (next n t e .rows)) (rw (wakes-woken n t e ok) at m) in
+      let after = waiting (t .tokens) (next n t e .rows) (rowIn (next n t e) k) in
+      let rests = not-true after (and-right (waiting (t .tokens) (t .rows) (rowIn t k)) (not after) passes) in
+      rest-clears (next n t e) (next-kept n t e ok) k (rw (next-tokens n t e ok) rests)
+
+  -- what a sweep says of the row of one who stayed
+  swept-so :
+      (rows : List Row) → rowIn (accepted t e) k ≡ swept (t .tokens) rows (rowIn t k) →
+      Swept (t .tokens) rows (rowIn t k) (rowIn (accepted t e) k)
+  swept-so rows row = subst (Swept (t .tokens) rows (rowIn t k)) (sym row) (sweeps (t .tokens) rows (rowIn t k))
+
+  -- a wait that goes on keeps its time
+  pub wait-goes-on :
+      waiting (t .tokens) (t .rows) (rowIn t k) ≡ true →
+      waiting (t .tokens) (next n t e .rows) (rowIn (next n t e) k) ≡ true → rowIn (next n t e) k .since ≡ rowIn t k .since
+  wait-goes-on = rw (next-accepted n t e ok) (go (fate n t e ok k))
+    where
+      go :
+          Fate t e k → waiting (t .tokens) (t .rows) (rowIn t k) ≡ true →
+          waiting (t .tokens) (accepted t e .rows) (rowIn (accepted t e) k) ≡ true →
+          rowIn (accepted t e) k .since ≡ rowIn t k .since
+      go (same row _) before after = ap (λ (r : Row). r .since) row
+      go (acted _ rests) before after = absurd (true≢false (sym before ∙ rests))
+      go (stayed _ rows row alike) before after =
+          let w = swept-so rows row in
+          w .since (waiting-alike (t .tokens) (rowIn (accepted t e) k) (rw (w .turn) alike) ∙ after)
+
+  -- whatever happens, an asked set is granted as a whole or stays asked as a whole, as Q3 decides on the rows after
+  pub asked-whole :
+      0 < rowIn t k .asked →
+      Decided (next n t e .rows) (rowIn t k .asked) (rowIn t k) (rowIn (next n t e) k .held) (rowIn (next n t e) k .asked)
+  asked-whole some = rw (next-accepted n t e ok) (go (fate n t e ok k))
+    where
+      alive : 0 < rowIn t k .turn .0
+      alive = not-idle (was-sound n t e ok) k (λ z. omega (arith, ap (λ (r : Row). r .asked) z))
+
+      go :
+          Fate t e k →
+          Decided (accepted t e .rows) (rowIn t k .asked) (rowIn t k) (rowIn (accepted t e) k .held) (rowIn (accepted t e) k .asked)
+      go (same row alike) =
+          let way = was-sound n t e ok .rows k .lives alive .asked-blocked some in
+          rw row (waits (omega (arith, alike .same-way (rowIn t k .asked))) refl refl)
+      go (acted _ rests) = absurd (omega (arith, waiting-reads (t .tokens) (t .rows) (rowIn t k) alive .fails .0 rests .1))
+      go (stayed _ rows row alike) = decided-alike alike (swept-so rows row .decided)

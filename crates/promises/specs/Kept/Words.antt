@@ -1,0 +1,106 @@
+-- What is said of accepted events and of rows while the table around them moves on.
+use Prim.Native.Nat.{ℕ, _<_, _≤_}
+use mathlib.Core.Path.{_≡_}
+use Rattle.event.specs.declared.events.Event.{Event}
+use Rattle.laws.specs.Cases.{first, refused}
+use Rattle.event.specs.Limits.{jobs}
+use Rattle.rows.specs.Order.{ahead, inWay, waiting}
+use Rattle.arbiter.specs.Refusals.{cases}
+use Rattle.arbiter.specs.declared.table.Table.{Table}
+use Rattle.promises.specs.Sound.Words.{rowIn}
+use mathlib.Core.Bool.{true, false, Bool}
+use mathlib.Core.List.{List}
+use Rattle.laws.specs.Sets.{union}
+use Rattle.rows.specs.declared.row.Row.{Row}
+use Rattle.event.specs.declared.events.Event.the-variants.{Beat, Open, Ask, Release, Complete}
+use Rattle.rows.specs.Sweep.{swept}
+use Rattle.arbiter.specs.Meaning.{accepted, answer, overdue, report}
+use Rattle.promises.specs.History.Words.{names}
+use mathlib.Core.Logic.{_≢_}
+
+-- no case refuses the event
+abbrev pub Accepts : ℕ → Table → Event → Type 0
+Accepts n t e = first (cases n t e) ≡ 0
+
+-- ---- Who acts
+
+-- the request of j may act: there is such a job, its request is live, has a token and asks nothing
+pub record Acts (t : Table) (j : ℕ) : Type 0 where
+  pub below : j < jobs
+  pub alive : 0 < rowIn t j .turn .0
+  pub has : ahead (t .rows) (rowIn t j .turn .0) < t .tokens
+  pub nothing : rowIn t j .asked ≡ 0
+
+-- ---- The decision
+
+-- Q3 decides on the whole of a set s for row r: where nothing is in the way all of it becomes held and nothing asked,
+-- else nothing more is held and all of it is asked
+pub data Decided (rows : List Row) (s : ℕ) (r : Row) (held asked : ℕ) : Type 0 where
+  grants : inWay rows (r .turn .0) s ≡ 0 → held ≡ union (r .held) s → asked ≡ 0 → Decided rows s r held asked
+  waits : 0 < inWay rows (r .turn .0) s → held ≡ r .held → asked ≡ s → Decided rows s r held asked
+
+-- ---- The ask
+
+-- an ask that is accepted moves neither turn nor declared set, Q3 decides on the set, and a wait counts from now
+pub record Asked (t : Table) (time s : ℕ) (r r′ : Row) : Type 0 where
+  pub turn : r′ .turn .0 ≡ r .turn .0
+  pub declared : r′ .declared ≡ r .declared
+  pub decided : Decided (t .rows) s r (r′ .held) (r′ .asked)
+  pub waits-now : 0 < inWay (t .rows) (r .turn .0) s → r′ .since ≡ time
+  pub goes-on : inWay (t .rows) (r .turn .0) s ≡ 0 → r′ .since ≡ r .since
+
+-- ---- The sweep
+
+-- a sweep moves neither turn nor declared set, and Q3 decides on the asked set; a wait that goes on keeps its time, and no
+-- other row has one
+pub record Swept (T : ℕ) (rows : List Row) (r r′ : Row) : Type 0 where
+  pub turn : r′ .turn .0 ≡ r .turn .0
+  pub declared : r′ .declared ≡ r .declared
+  pub decided : Decided rows (r .asked) r (r′ .held) (r′ .asked)
+  pub since : waiting T rows r′ ≡ true → r′ .since ≡ r .since
+  pub rests : waiting T rows r′ ≡ false → r′ .since ≡ 0
+
+-- two lists of rows look alike from turn n: as many stand before it, and as many of those declare any given set
+pub record Alike (rows rows′ : List Row) (n : ℕ) : Type 0 where
+  pub same-ahead : ahead rows n ≡ ahead rows′ n
+  pub same-way : (x : ℕ) → inWay rows n x ≡ inWay rows′ n x
+
+-- u has the numbers of t, and is no earlier
+pub record Onward (t u : Table) : Type 0 where
+  pub tokens : t .tokens ≡ u .tokens
+  pub resources : t .resources ≡ u .resources
+  pub time : t .time ≤ u .time
+  pub last : t .last .0 ≤ u .last .0
+
+-- from turn n no more stand before it and no more are in the way than before
+pub record Clearer (rows rows′ : List Row) (n : ℕ) : Type 0 where
+  pub less-ahead : ahead rows′ n ≤ ahead rows n
+  pub less-way : (x : ℕ) → inWay rows′ n x ≤ inWay rows n x
+
+-- ---- What becomes of a row
+
+-- whether an event is a completion
+abbrev pub completes : Event → Bool
+completes (Beat tick) = false
+completes (Open j tick s) = false
+completes (Ask j tick s) = false
+completes (Release j tick s) = false
+completes (Complete j tick) = true
+
+-- after an accepted event a row is the same and looks on alike rows; or the event named it, and it did not wait before;
+-- or it stayed when another completed, and the rows left were swept
+pub data Fate (t : Table) (e : Event) (k : ℕ) : Type 0 where
+  same :
+      rowIn (accepted t e) k ≡ rowIn t k → Alike (t .rows) (accepted t e .rows) (rowIn t k .turn .0) → Fate t e k
+  acted : names k e ≡ true → waiting (t .tokens) (t .rows) (rowIn t k) ≡ false → Fate t e k
+  stayed :
+      completes e ≡ true → (rows : List Row) → rowIn (accepted t e) k ≡ swept (t .tokens) rows (rowIn t k) →
+      Alike rows (accepted t e .rows) (rowIn t k .turn .0) → Fate t e k
+
+-- ---- Refusal 3
+
+-- no event and no question on a table is refused as 3
+pub record NeverUnsound (t : Table) : Type 0 where
+  pub event : (n : ℕ) (e : Event) → answer n t e ≢ refused 3
+  pub report : (j : ℕ) → report t j ≢ refused 3
+  pub overdue : (n tick : ℕ) → overdue n t tick ≢ refused 3

@@ -1,0 +1,98 @@
+-- What an event does to the requests of turns up to n: none of another changes anything of theirs, and whom it wakes among
+-- them is said by their rows alone.
+use Prim.Native.Nat.{ℕ, _+_, _≤_}
+use mathlib.Core.Bool.{Bool, true, false, cond, false≢true, true≢false}
+use mathlib.Core.List.{[], _∷_}
+use mathlib.Core.Path.{_≡_, refl, sym, ap, _∙_}
+use native.Mathlib.Omega.{arith}
+use borrow.Author.Tests.{eqb-true, lt-ltb, ltb-true}
+use lib.Dec.{eqb}
+use lib.ListN.{length-map}
+use lib.Seq.{ext-getD}
+use Rattle.event.specs.declared.events.Event.{Event}
+use Rattle.event.specs.declared.events.Event.the-variants.{Beat, Open, Ask, Release, Complete}
+use Rattle.rows.specs.Line.{keep}
+use Rattle.event.specs.Limits.{jobs}
+use Rattle.rows.specs.Order.{earlier, idle, live}
+use Rattle.rows.specs.Sweep.{woken}
+use Rattle.rows.specs.Turns.{earlier-turn, turn-earlier}
+use Rattle.arbiter.specs.Meaning.{accepted, next, run, wakes}
+use Rattle.arbiter.specs.declared.table.Table.{Table}
+use Rattle.promises.specs.Demand.Statement.{Beside}
+use Rattle.promises.specs.Demand.Others.{unmoved}
+use Rattle.promises.specs.History.Words.{lists, taken, Along}
+use Rattle.promises.specs.History.Events.{next-either}
+use Rattle.promises.specs.History.Count.{along-next}
+use Rattle.promises.specs.History.Turn.{back-run}
+use Rattle.promises.specs.Kept.Accepted.{next-accepted}
+use Rattle.promises.specs.Kept.Woken.{wakes-woken}
+use Rattle.promises.specs.Sound.Words.{rowIn, seen}
+use Rattle.promises.specs.UpTo.Statement.{among, ofThem, upTo}
+use Rattle.promises.specs.UpTo.Line.{woken-none, woken-up-to}
+use Rattle.promises.specs.UpTo.Rows.{row-up-to, seen-out}
+
+-- a refused event leaves the table
+pub refused-stays : (t : Table) (e : Event) → taken t e ≡ false → next jobs t e ≡ t
+refused-stays t e = next-either t e (λ b u. b ≡ false → u ≡ t) (λ ok q. absurd (true≢false q)) (λ q. refl)
+
+module _ {T n : ℕ} (t : Table) (along : Along T n t) (e : Event) where
+  -- whoever is among them after an event was before it
+  back-among : (i : ℕ) → among n (next jobs t e) i ≡ true → among n t i ≡ true
+  unfolding run
+  back-among i q =
+      let p = earlier-turn (n + 1) (rowIn (next jobs t e) i) q in
+      let k = rowIn (next jobs t e) i .turn .0 in
+      let lower : Along T k t = record { wide = along .wide; tokens = along .tokens; given = omega (arith, along .given) } in
+      ap (earlier (n + 1)) (sym (back-run t lower (p .0) i (e ∷ []) refl)) ∙ q
+
+  -- an event that is none of theirs names none of them
+  beside : ofThem n t e ≡ false → Beside n t e
+  beside = go e
+    where
+      other : (j i : ℕ) → among n t j ≡ false → live (rowIn t i) ≡ true → rowIn t i .turn .0 ≤ n → eqb j i ≡ false
+      other j i out lives low = is (eqb j i) refl
+        where
+          is : (b : Bool) → eqb j i ≡ b → b ≡ false
+          is true q =
+              let member = turn-earlier (n + 1) (rowIn t i) (ltb-true 0 (rowIn t i .turn .0) lives) (omega arith) in
+              sym member ∙ ap (among n t) (sym (eqb-true j i q)) ∙ out
+          is false q = refl
+
+      go : (e : Event) → ofThem n t e ≡ false → Beside n t e
+      go (Beat tick) out i lives low = refl
+      go (Open j tick s) out i lives low = other j i out lives low
+      go (Ask j tick s) out i lives low = other j i out lives low
+      go (Release j tick s) out i lives low = other j i out lives low
+      go (Complete j tick) out i lives low = other j i out lives low
+
+  pub others : ofThem n t e ≡ false → upTo n (next jobs t e .rows) ≡ upTo n (t .rows)
+  others out =
+      ext-getD idle (upTo n (next jobs t e .rows)) (upTo n (t .rows))
+      (length-map (next jobs t e .rows) (seen (n + 1))
+      ∙ along-next along e .wide ∙ sym (along .wide) ∙ sym (length-map (t .rows) (seen (n + 1))))
+      (λ i inside.
+      row-up-to n (next jobs t e .rows) i
+      ∙ go i (among n t i) refl (among n (next jobs t e) i) refl
+      ∙ sym (row-up-to n (t .rows) i))
+    where
+      go :
+          (i : ℕ) (b : Bool) → among n t i ≡ b → (c : Bool) → among n (next jobs t e) i ≡ c →
+          seen (n + 1) (rowIn (next jobs t e) i) ≡ seen (n + 1) (rowIn t i)
+      go i true p c q =
+          let turn = earlier-turn (n + 1) (rowIn t i) p in
+          ap (seen (n + 1)) (unmoved t along e (beside out) .row i (lt-ltb 0 (rowIn t i .turn .0) (turn .0)) (omega arith))
+      go i false p true q = absurd (false≢true (sym p ∙ back-among i q))
+      go i false p false q = seen-out (n + 1) (rowIn (next jobs t e) i) q ∙ sym (seen-out (n + 1) (rowIn t i) p)
+
+  -- of the woken, those among them are those that the rows up to n say
+  pub listed-woken :
+      keep (among n (next jobs t e)) (lists t e) ≡ woken T (upTo n (t .rows)) (upTo n (next jobs t e .rows))
+  unfolding keep
+  listed-woken =
+      next-either t e
+      (λ b u. keep (among n u) (cond b (wakes t e) []) ≡ woken T (upTo n (t .rows)) (upTo n (u .rows)))
+      (λ ok.
+      ap (keep (among n (accepted t e))) (rw (next-accepted jobs t e ok) at (wakes-woken jobs t e ok))
+      ∙ woken-up-to n (t .tokens) (t .rows) (accepted t e .rows) (λ i. rw (next-accepted jobs t e ok) at (back-among i))
+      ∙ ap (λ (T : ℕ). woken T (upTo n (t .rows)) (upTo n (accepted t e .rows))) (along .tokens))
+      (sym (woken-none T (upTo n (t .rows))))

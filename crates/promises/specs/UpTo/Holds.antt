@@ -1,0 +1,159 @@
+-- Requests of turns up to n: what they live through depends on the rows of turns up to n alone. The proof.
+use Prim.Native.Nat.{ℕ, _+_}
+use mathlib.Core.Bool.{Bool, true, false, cond, false≢true}
+use mathlib.Core.List.{List, [], _∷_}
+use mathlib.Core.Path.{_≡_, refl, sym, ap, _∙_}
+use native.Mathlib.Omega.{arith}
+use borrow.Author.Tests.{lt-ltb}
+use lib.ListN.{length, set}
+use Rattle.event.specs.declared.events.Event.{Event}
+use Rattle.event.specs.declared.events.Event.the-variants.{Beat, Open, Ask, Release, Complete}
+use Rattle.laws.specs.Cases.{outcome, refused}
+use Rattle.laws.specs.Sets.{union}
+use Rattle.rows.specs.Line.{keep, line}
+use Rattle.event.specs.Limits.{jobs}
+use Rattle.rows.specs.Order.{idle, live}
+use Rattle.rows.specs.Sweep.{settled, woken}
+use Rattle.rows.specs.Turns.{earlier-turn}
+use Rattle.rows.specs.declared.row.Row.{Row}
+use Rattle.arbiter.specs.Answers.{woke}
+use Rattle.arbiter.specs.Meaning.{accepted, answer, askedRow, lateAt, lateJob, moved, next, releasedRow, run, timeAt, wakes}
+use Rattle.arbiter.specs.Refusals.{cases, shortList}
+use Rattle.arbiter.specs.Sound.{sound}
+use Rattle.arbiter.specs.declared.table.Table.{Table}
+use Rattle.promises.specs.History.Events.{accepts}
+use Rattle.promises.specs.History.Words.{isFine, taken, Along}
+use Rattle.promises.specs.History.Count.{along-next}
+use Rattle.promises.specs.Kept.Soundness.{next-sound}
+use Rattle.promises.specs.Kept.Words.{Accepts}
+use Rattle.promises.specs.Kept.Accepted.{next-accepted, open-idle}
+use Rattle.promises.specs.Sound.Words.{rowIn, seen}
+use Rattle.promises.specs.UpTo.Statement.{Agree, SameUpTo, ToldAlike, butNumber, ofThem, upTo, TakenAlike}
+use Rattle.promises.specs.UpTo.Events.{listed-woken, others, refused-stays}
+use Rattle.promises.specs.UpTo.Line.{late-up-to}
+use Rattle.promises.specs.UpTo.Rows.{set-up-to, settled-up-to}
+use Rattle.promises.specs.UpTo.Same.{but-number, fine-but-number, open-refused, refusal, same-act, same-ask, same-blocked, same-of, same-release, same-report, same-row, same-time}
+
+module _ {T n : ℕ} {t u : Table} (along-t : Along T n t) (along-u : Along T n u) (sound-t : sound t ≡ true)
+    (sound-u : sound u ≡ true) (a : Agree n t u) where
+  answered : (e : Event) → ofThem n t e ≡ true → butNumber (answer jobs t e) ≡ butNumber (answer jobs u e)
+  unfolding answer
+  answered (Beat tick) in-t = absurd (false≢true in-t)
+  answered (Open j tick s) in-t =
+      let lives : live (rowIn t j) ≡ true = lt-ltb 0 (rowIn t j .turn .0) (earlier-turn (n + 1) (rowIn t j) in-t .0) in
+      let both : sound t ≡ sound u = sound-t ∙ sym sound-u in
+      ap butNumber
+      (open-refused t j tick s lives
+      ∙ (λ i. refused (refusal (both i) (a .time i) j (tick .0)))
+      ∙ sym (open-refused u j tick s (ap live (sym (same-row a j in-t)) ∙ lives)))
+  answered (Ask j tick s) in-t = ap butNumber (same-ask a j in-t sound-t sound-u tick s)
+  answered (Release j tick s) in-t = ap butNumber (same-release a j in-t sound-t sound-u tick s)
+  answered (Complete j tick) in-t =
+      let more = length (wakes u (Complete j tick)) in
+      but-number (cases jobs t (Complete j tick)) (length (wakes t (Complete j tick))) more
+      ∙ (λ i. butNumber (outcome (shortList jobs ∷ same-act a j in-t sound-t sound-u (tick .0) i) (woke more)))
+
+  taken-alike : (e : Event) → ofThem n t e ≡ true → taken t e ≡ taken u e
+  taken-alike e in-t =
+      sym (fine-but-number (answer jobs t e)) ∙ ap isFine (answered e in-t) ∙ fine-but-number (answer jobs u e)
+
+  -- the rows that an accepted event of one of them leaves
+  rows-accepted :
+      (e : Event) → Accepts jobs t e → ofThem n t e ≡ true → upTo n (accepted t e .rows) ≡ upTo n (accepted u e .rows)
+  rows-accepted (Beat tick) ok in-t = absurd (false≢true in-t)
+  rows-accepted (Open j tick s) ok in-t =
+      absurd (omega (arith, earlier-turn (n + 1) (rowIn t j) in-t .0, open-idle jobs t j tick s ok))
+  rows-accepted (Ask j tick s) ok in-t =
+      let r = same-row a j in-t in
+      let asked : askedRow t (rowIn t j) (timeAt t (tick .0)) s ≡ askedRow u (rowIn u j) (timeAt u (tick .0)) s =
+      λ i.
+      cond (same-blocked a j in-t s i)
+      (record { turn = r i .turn; declared = r i .declared; held = r i .held; asked = s; since = same-time a (tick .0) i })
+      (record { turn = r i .turn; declared = r i .declared; held = union (r i .held) s; asked = r i .asked; since = r i .since }) in
+      set-up-to n (t .rows) j (askedRow t (rowIn t j) (timeAt t (tick .0)) s)
+      ∙ (λ i. set (a .rows i) j (seen (n + 1) (asked i)))
+      ∙ sym (set-up-to n (u .rows) j (askedRow u (rowIn u j) (timeAt u (tick .0)) s))
+  rows-accepted (Release j tick s) ok in-t =
+      set-up-to n (t .rows) j (releasedRow (rowIn t j) s)
+      ∙ (λ i. set (a .rows i) j (seen (n + 1) (releasedRow (same-row a j in-t i) s)))
+      ∙ sym (set-up-to n (u .rows) j (releasedRow (rowIn u j) s))
+  rows-accepted (Complete j tick) ok in-t =
+      settled-up-to n (set (t .rows) j idle) (t .tokens)
+      ∙ ap (settled (t .tokens)) (set-up-to n (t .rows) j idle)
+      ∙ (λ i. settled (a .tokens i) (set (a .rows i) j idle))
+      ∙ ap (settled (u .tokens)) (sym (set-up-to n (u .rows) j idle))
+      ∙ sym (settled-up-to n (set (u .rows) j idle) (u .tokens))
+
+  module _ (e : Event) where
+    rows-next : upTo n (next jobs t e .rows) ≡ upTo n (next jobs u e .rows)
+    rows-next = go (ofThem n t e) refl (taken t e) refl
+      where
+        go :
+            (b : Bool) → ofThem n t e ≡ b → (c : Bool) → taken t e ≡ c →
+            upTo n (next jobs t e .rows) ≡ upTo n (next jobs u e .rows)
+        go false out c q = others t along-t e out ∙ a .rows ∙ sym (others u along-u e (sym (same-of a e) ∙ out))
+        go true in-t true q =
+            let ok = accepts t e q in
+            let ok-u = accepts u e (sym (taken-alike e in-t) ∙ q) in
+            rw (next-accepted jobs t e ok, next-accepted jobs u e ok-u) (rows-accepted e ok in-t)
+        go true in-t false q =
+            rw (refused-stays t e q, refused-stays u e (sym (taken-alike e in-t) ∙ q)) (a .rows)
+
+    agree-moved :
+        (tick last last′ : ℕ) (rows rows′ : List Row) → upTo n rows ≡ upTo n rows′ →
+        Agree n (moved t (timeAt t tick) last rows) (moved u (timeAt u tick) last′ rows′)
+    agree-moved tick last last′ rows rows′ same =
+        record { tokens = a .tokens; resources = a .resources; limit = a .limit; time = same-time a tick; rows = same }
+
+    agree-accepted :
+        (e : Event) → upTo n (accepted t e .rows) ≡ upTo n (accepted u e .rows) → Agree n (accepted t e) (accepted u e)
+    agree-accepted (Beat tick) same = agree-moved (tick .0) _ _ _ _ same
+    agree-accepted (Open j tick s) same = agree-moved (tick .0) _ _ _ _ same
+    agree-accepted (Ask j tick s) same = agree-moved (tick .0) _ _ _ _ same
+    agree-accepted (Release j tick s) same = agree-moved (tick .0) _ _ _ _ same
+    agree-accepted (Complete j tick) same = agree-moved (tick .0) _ _ _ _ same
+
+    agree-next : taken t e ≡ taken u e → Agree n (next jobs t e) (next jobs u e)
+    agree-next alike = go (taken t e) refl
+      where
+        go : (b : Bool) → taken t e ≡ b → Agree n (next jobs t e) (next jobs u e)
+        go true q =
+            let ok = next-accepted jobs t e (accepts t e q) in
+            let ok-u = next-accepted jobs u e (accepts u e (sym alike ∙ q)) in
+            rw (ok, ok-u) (agree-accepted e (rw (ok, ok-u) at rows-next))
+        go false q = rw (refused-stays t e q, refused-stays u e (sym alike ∙ q)) a
+
+    -- the rows of turns up to n decide what those requests are told, who of them is woken, and their next rows
+    pub up-to-decides : SameUpTo n t u e
+    up-to-decides =
+        record {
+          answered = answered e;
+          listed =
+              listed-woken t along-t e ∙ (λ i. woken T (a .rows i) (rows-next i)) ∙ sym (listed-woken u along-u e);
+          rows = rows-next;
+          agree = agree-next;
+          taken-alike = taken-alike e;
+          others = others t along-t e;
+        }
+
+-- and what they are told when they ask
+pub up-to-tells :
+    {n : ℕ} {t u : Table} → sound t ≡ true → sound u ≡ true → Agree n t u → ToldAlike n t u
+unfolding lateAt
+up-to-tells {n} {t} {u} sound-t sound-u a =
+    record {
+      reported = λ j in-t. same-report a j in-t sound-t sound-u;
+      overdue = λ tick.
+          late-up-to n (t .tokens) (t .limit) (timeAt t tick) (t .rows)
+          ∙ (λ i. keep (lateJob (a .tokens i) (a .limit i) (same-time a tick i) (a .rows i)) (line (a .rows i)))
+          ∙ sym (late-up-to n (u .tokens) (u .limit) (timeAt u tick) (u .rows));
+    }
+
+pub up-to-agrees :
+    {T n : ℕ} {t u : Table} → Along T n t → Along T n u → sound t ≡ true → sound u ≡ true → Agree n t u → (es : List Event) →
+    TakenAlike t u es → Agree n (run t es) (run u es)
+unfolding run TakenAlike
+up-to-agrees along-t along-u sound-t sound-u a [] alike = a
+up-to-agrees {t = t} {u = u} along-t along-u sound-t sound-u a (e ∷ es) alike =
+    up-to-agrees (along-next along-t e) (along-next along-u e) (next-sound jobs t e sound-t) (next-sound jobs u e sound-u)
+    (up-to-decides along-t along-u sound-t sound-u a e .agree (alike .0)) es (alike .1)
