@@ -10,7 +10,7 @@ use Rattle.event.specs.Limits.{jobs}
 use Rattle.rows.specs.Order.{token, waiting}
 use Rattle.rows.specs.Stand.{Stands, Surveyed, unknown}
 use Rattle.rows.specs.SweepLaws.{ahead-settled, distinct-settled, granted-keeps, in-way-settled, turn-settled}
-use Rattle.rows.specs.Sweep.{granted, rested, settled, swept, woke}
+use Rattle.rows.specs.Sweep.{grantedRow, restedRow, settled, sweptRow, woke}
 use Rattle.rows.specs.declared.row.Row.{Row}
 use Rattle.rows.specs.declared.stand.Standing.{Standing}
 use Rattle.rows.specs.declared.stand.Survey.{Survey}
@@ -25,16 +25,16 @@ module _ (T : ℕ) (rows : List Row) (s : Standing) where
   pub waiting-by : (r : Row) → Stands rows (r .turn .0) s → waitingBy T s r ≡ waiting T rows r
   waiting-by r stands = rw (token-by (r .turn .0) stands)
 
-  granted-by : (r : Row) → Stands rows (r .turn .0) s → grantedBy s r ≡ granted rows r
+  granted-by : (r : Row) → Stands rows (r .turn .0) s → grantedBy s r ≡ grantedRow rows r
   granted-by r stands = rw (stands .forbids (r .asked))
 
-  rested-by : (r : Row) → Stands rows (r .turn .0) s → restedBy T s r ≡ rested T rows r
+  rested-by : (r : Row) → Stands rows (r .turn .0) s → restedBy T s r ≡ restedRow T rows r
   rested-by r stands = rw (waiting-by r stands)
 
-  pub swept-by : (r : Row) → Stands rows (r .turn .0) s → sweptBy T s r ≡ swept T rows r
+  pub swept-by : (r : Row) → Stands rows (r .turn .0) s → sweptBy T s r ≡ sweptRow T rows r
   swept-by r stands =
       ap (restedBy T s) (granted-by r stands)
-      ∙ rested-by (granted rows r)
+      ∙ rested-by (grantedRow rows r)
       (subst (λ (x : Row). Stands rows (x .turn .0) s) (sym (granted-keeps rows r)) stands)
 
 pub woke-by :

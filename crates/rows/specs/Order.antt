@@ -56,5 +56,5 @@ unfoldable pub distinct : List Row → Bool
 distinct rows = all (alone rows) rows
 
 -- what a row was opened with, which is all that the order looks at: its turn and its declared set
-abbrev pub opened : Row → Row
-opened r = record { turn = r .turn; declared = r .declared; held = 0; asked = 0; since = 0 }
+abbrev pub openingOf : Row → Row
+openingOf r = record { turn = r .turn; declared = r .declared; held = 0; asked = 0; since = 0 }

@@ -9,7 +9,7 @@ use Rattle.laws.specs.Bools.{bit}
 use Rattle.laws.specs.Lists.{all, count}
 use Rattle.laws.specs.ListLaws.{all-map, count-map, count-set}
 use Rattle.rows.specs.declared.row.Row.{Row}
-use Rattle.rows.specs.Order.{idle, live, earlier, ahead, claims, inWay, bears, alone, distinct, opened}
+use Rattle.rows.specs.Order.{idle, live, earlier, ahead, claims, inWay, bears, alone, distinct, openingOf}
 
 -- ---- Laws
 
@@ -25,9 +25,9 @@ module _ (rows : List Row) (j : ℕ) (x : Row) (below : j < length rows) (n : �
   in-way-set s = count-set (claims n s) rows j x idle below
 
 -- when every row keeps what it was opened with
-module _ (f : Row → Row) (keeps : (r : Row) → opened (f r) ≡ opened r) (rows : List Row) where
+module _ (f : Row → Row) (keeps : (r : Row) → openingOf (f r) ≡ openingOf r) (rows : List Row) where
   -- so many pass any test that looks at no more
-  pub count-kept : (g : Row → Bool) → ((r : Row) → g (opened r) ≡ g r) → count g (map f rows) ≡ count g rows
+  pub count-kept : (g : Row → Bool) → ((r : Row) → g (openingOf r) ≡ g r) → count g (map f rows) ≡ count g rows
   count-kept g by =
       count-map g f rows ∙ ap (λ (h : Row → Bool). count h rows) (fun-ext (λ r. sym (by (f r)) ∙ ap g (keeps r) ∙ by r))
 

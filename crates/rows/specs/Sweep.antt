@@ -8,24 +8,24 @@ use Rattle.rows.specs.Order.{blocked, waiting}
 use Rattle.rows.specs.declared.row.Row.{Row}
 
 -- the whole asked set is held, where Q3 allows it
-abbrev pub granted : List Row → Row → Row
-granted rows r =
+abbrev pub grantedRow : List Row → Row → Row
+grantedRow rows r =
     cond (blocked rows (r .turn .0) (r .asked)) r
     (record { turn = r .turn; declared = r .declared; held = union (r .held) (r .asked); asked = 0; since = r .since })
 
 -- a row that does not wait has no waiting time
-abbrev pub rested : ℕ → List Row → Row → Row
-rested T rows r =
+abbrev pub restedRow : ℕ → List Row → Row → Row
+restedRow T rows r =
     cond (waiting T rows r) r
     (record { turn = r .turn; declared = r .declared; held = r .held; asked = r .asked; since = 0 })
 
 -- the row after the sweep
-abbrev pub swept : ℕ → List Row → Row → Row
-swept T rows r = rested T rows (granted rows r)
+abbrev pub sweptRow : ℕ → List Row → Row → Row
+sweptRow T rows r = restedRow T rows (grantedRow rows r)
 
 -- every asked set that Q3 allows is granted, and whoever no longer waits has no waiting time
 unfoldable pub settled : ℕ → List Row → List Row
-settled T rows = map (swept T rows) rows
+settled T rows = map (sweptRow T rows) rows
 
 -- the job waited before and does not wait after
 abbrev pub woke : ℕ → List Row → List Row → ℕ → Bool

@@ -8,50 +8,50 @@ use Rattle.laws.specs.BoolLaws.{either}
 use Rattle.laws.specs.Lists.{count}
 use Rattle.laws.specs.Sets.{union}
 use Rattle.rows.specs.Line.{rowOf}
-use Rattle.rows.specs.Order.{ahead, blocked, distinct, idle, inWay, opened, waiting}
+use Rattle.rows.specs.Order.{ahead, blocked, distinct, idle, inWay, openingOf, waiting}
 use Rattle.rows.specs.OrderLaws.{ahead-map, count-kept, distinct-map, in-way-map}
 use Rattle.rows.specs.declared.row.Row.{Row}
-use Rattle.rows.specs.Sweep.{granted, rested, swept, settled}
+use Rattle.rows.specs.Sweep.{grantedRow, restedRow, sweptRow, settled}
 
 -- ---- Laws
 
 -- the sweep changes no turn and no declared set
-pub granted-keeps : (rows : List Row) (r : Row) → opened (granted rows r) ≡ opened r
-granted-keeps rows r = either opened (blocked rows (r .turn .0) (r .asked)) r _ refl
+pub granted-keeps : (rows : List Row) (r : Row) → openingOf (grantedRow rows r) ≡ openingOf r
+granted-keeps rows r = either openingOf (blocked rows (r .turn .0) (r .asked)) r _ refl
 
 module _ (T : ℕ) (rows : List Row) where
-  pub swept-keeps : (r : Row) → opened (swept T rows r) ≡ opened r
-  swept-keeps r = either opened (waiting T rows (granted rows r)) (granted rows r) _ refl ∙ granted-keeps rows r
+  pub swept-keeps : (r : Row) → openingOf (sweptRow T rows r) ≡ openingOf r
+  swept-keeps r = either openingOf (waiting T rows (grantedRow rows r)) (grantedRow rows r) _ refl ∙ granted-keeps rows r
 
-  pub swept-idle : swept T rows idle ≡ idle
+  pub swept-idle : sweptRow T rows idle ≡ idle
   unfolding union
-  swept-idle = ap (rested T rows) (either (λ r. r) (blocked rows 0 0) idle _ refl)
+  swept-idle = ap (restedRow T rows) (either (λ r. r) (blocked rows 0 0) idle _ refl)
 
-  pub row-settled : (j : ℕ) → rowOf (settled T rows) j ≡ swept T rows (rowOf rows j)
+  pub row-settled : (j : ℕ) → rowOf (settled T rows) j ≡ sweptRow T rows (rowOf rows j)
   unfolding settled
   row-settled j =
-      ap (λ (d : Row). getD (map (swept T rows) rows) j d) (sym swept-idle) ∙ List·getD-map (swept T rows) rows j idle
+      ap (λ (d : Row). getD (map (sweptRow T rows) rows) j d) (sym swept-idle) ∙ List·getD-map (sweptRow T rows) rows j idle
 
   pub turn-settled : (j : ℕ) → rowOf (settled T rows) j .turn ≡ rowOf rows j .turn
   turn-settled j = ap (λ (r : Row). r .turn) (row-settled j) ∙ ap (λ (r : Row). r .turn) (swept-keeps (rowOf rows j))
 
   pub length-settled : length (settled T rows) ≡ length rows
   unfolding settled
-  length-settled = length-map rows (swept T rows)
+  length-settled = length-map rows (sweptRow T rows)
 
   -- so many rows pass a test that looks at no more than these two
-  pub count-settled : (g : Row → Bool) → ((r : Row) → g (opened r) ≡ g r) → count g (settled T rows) ≡ count g rows
+  pub count-settled : (g : Row → Bool) → ((r : Row) → g (openingOf r) ≡ g r) → count g (settled T rows) ≡ count g rows
   unfolding settled
-  count-settled = count-kept (swept T rows) swept-keeps rows
+  count-settled = count-kept (sweptRow T rows) swept-keeps rows
 
   pub ahead-settled : (n : ℕ) → ahead (settled T rows) n ≡ ahead rows n
   unfolding settled
-  ahead-settled = ahead-map (swept T rows) swept-keeps rows
+  ahead-settled = ahead-map (sweptRow T rows) swept-keeps rows
 
   pub in-way-settled : (n s : ℕ) → inWay (settled T rows) n s ≡ inWay rows n s
   unfolding settled
-  in-way-settled = in-way-map (swept T rows) swept-keeps rows
+  in-way-settled = in-way-map (sweptRow T rows) swept-keeps rows
 
   pub distinct-settled : distinct (settled T rows) ≡ distinct rows
   unfolding settled
-  distinct-settled = distinct-map (swept T rows) swept-keeps rows
+  distinct-settled = distinct-map (sweptRow T rows) swept-keeps rows

@@ -16,7 +16,7 @@ use Rattle.laws.specs.Lists.{count}
 use Rattle.laws.specs.ListLaws.{count-set}
 use Rattle.laws.specs.Sets.{meets}
 use Rattle.event.specs.Limits.{jobs}
-use Rattle.rows.specs.Order.{ahead, blocked, claims, earlier, idle, inWay, opened}
+use Rattle.rows.specs.Order.{ahead, blocked, claims, earlier, idle, inWay, openingOf}
 use Rattle.rows.specs.SweepLaws.{count-settled, length-settled}
 use Rattle.rows.specs.Turns.{not-earlier}
 use Rattle.rows.specs.declared.row.Row.{Row}
@@ -65,7 +65,7 @@ module _ {n : ℕ} {f : Row → Bool} (low : Lower n f) where
 
     -- as one does that keeps what it was opened with
     kept :
-        (j : ℕ) (r : Row) → j < jobs → opened r ≡ opened (rowIn t j) → 0 + count f (set (t .rows) j r) ≡ count f (t .rows)
+        (j : ℕ) (r : Row) → j < jobs → openingOf r ≡ openingOf (rowIn t j) → 0 + count f (set (t .rows) j r) ≡ count f (t .rows)
     kept j r h e = alike j r h (sym (low .by-opening r) ∙ ap f e ∙ low .by-opening (rowIn t j))
 
     count-accepted : (e : Event) → Accepts jobs t e → leaving f t e + count f (accepted t e .rows) ≡ count f (t .rows)
@@ -76,7 +76,7 @@ module _ {n : ℕ} {f : Row → Bool} (low : Lower n f) where
         (low .late-fails r (omega (arith, along .given)) ∙ sym (low .idle-fails (rowIn t j) (open-idle jobs t j tick s ok)))
     count-accepted (Ask j tick s) ok =
         kept j (askedRow t (rowIn t j) (timeAt t (tick .0)) s) (ask-acts jobs t j tick s ok .below)
-        (either opened (blocked (t .rows) (rowIn t j .turn .0) s) _ _ refl)
+        (either openingOf (blocked (t .rows) (rowIn t j .turn .0) s) _ _ refl)
     count-accepted (Release j tick s) ok = kept j (releasedRow (rowIn t j) s) (release-acts jobs t j tick s ok .below) refl
     count-accepted (Complete j tick) ok =
         omega (

@@ -11,7 +11,7 @@ use Rattle.laws.specs.Sets.{union}
 use Rattle.laws.specs.SetLaws.{union-empty}
 use Rattle.event.specs.Limits.{jobs}
 use Rattle.rows.specs.Order.{blocked, inWay, live, token, waiting}
-use Rattle.rows.specs.Sweep.{granted, rested, swept}
+use Rattle.rows.specs.Sweep.{grantedRow, restedRow, sweptRow}
 use Rattle.rows.specs.SweepLaws.{granted-keeps, swept-keeps}
 use Rattle.rows.specs.Turns.{waiting-reads}
 use Rattle.rows.specs.declared.row.Row.{Row}
@@ -43,18 +43,18 @@ abbrev sinceWhen : Row → ℕ → Row
 sinceWhen r since = record { turn = r .turn; declared = r .declared; held = r .held; asked = r .asked; since = since }
 
 -- a sweep over alike rows leaves the same
-pub swept-alike : {rows rows′ : List Row} (T : ℕ) (r : Row) → Alike rows rows′ (r .turn .0) → swept T rows r ≡ swept T rows′ r
+pub swept-alike : {rows rows′ : List Row} (T : ℕ) (r : Row) → Alike rows rows′ (r .turn .0) → sweptRow T rows r ≡ sweptRow T rows′ r
 swept-alike {rows} {rows′} T r a =
-    let g = granted rows r in
+    let g = grantedRow rows r in
     let turn : g .turn .0 ≡ r .turn .0 = ap (λ (x : Row). x .turn .0) (granted-keeps rows r) in
     let waits : waiting T rows g ≡ waiting T rows′ g = waiting-alike T g (subst (Alike rows rows′) (sym turn) a) in
     (λ i. cond (waits i) g (sinceWhen g 0))
-    ∙ ap (rested T rows′) (λ i. cond (ltb 0 (a .same-way (r .asked) i)) r (holding r (union (r .held) (r .asked)) 0))
+    ∙ ap (restedRow T rows′) (λ i. cond (ltb 0 (a .same-way (r .asked) i)) r (holding r (union (r .held) (r .asked)) 0))
 
 -- a live row of a sound table is as the sweep leaves it
-pub swept-rests : (t : Table) (r : Row) → 0 < r .turn .0 → LiveRow t r → swept (t .tokens) (t .rows) r ≡ r
+pub swept-rests : (t : Table) (r : Row) → 0 < r .turn .0 → LiveRow t r → sweptRow (t .tokens) (t .rows) r ≡ r
 swept-rests t r alive p =
-    ap (rested (t .tokens) (t .rows)) (grant (blocked (t .rows) (r .turn .0) (r .asked)) refl)
+    ap (restedRow (t .tokens) (t .rows)) (grant (blocked (t .rows) (r .turn .0) (r .asked)) refl)
     ∙ rest (waiting (t .tokens) (t .rows) r) refl
   where
     grant :
@@ -87,10 +87,10 @@ module _ {T n j : ℕ} {t : Table} (b : Bears T n j t) where
     after = accepted t e .rows
 
     -- the row after an event is the row before it, swept by the rows after it
-    pub row-after : rowIn (accepted t e) j ≡ swept (t .tokens) after (rowIn t j)
+    pub row-after : rowIn (accepted t e) j ≡ sweptRow (t .tokens) after (rowIn t j)
     row-after = go (fate jobs t e ok j)
       where
-        go : Fate t e j → rowIn (accepted t e) j ≡ swept (t .tokens) after (rowIn t j)
+        go : Fate t e j → rowIn (accepted t e) j ≡ sweptRow (t .tokens) after (rowIn t j)
         go (same row alike) =
             row
             ∙ sym (swept-rests t (rowIn t j) alive (was-sound jobs t e ok .rows j .lives alive))

@@ -9,7 +9,7 @@ use Rattle.event.specs.declared.events.Event.the-variants.{Beat, Open, Ask, Rel
 use Rattle.laws.specs.BoolLaws.{either}
 use Rattle.rows.specs.Line.{rowOf}
 use Rattle.event.specs.Limits.{jobs}
-use Rattle.rows.specs.Order.{blocked, idle, opened}
+use Rattle.rows.specs.Order.{blocked, idle, openingOf}
 use Rattle.rows.specs.SweepLaws.{row-settled, swept-keeps}
 use Rattle.rows.specs.Sweep.{settled}
 use Rattle.rows.specs.Turns.{at-set}
@@ -26,7 +26,7 @@ use Rattle.promises.specs.Sound.Words.{rowIn}
 module _ {T n : ℕ} (t : Table) (along : Along T n t) (some : 0 < n) (j : ℕ) where
   -- if row r of job k bears turn n, it has the turn and the declared set that the job's row has in t
   abbrev Back : ℕ → Row → Type 0
-  Back k r = r .turn .0 ≡ n → opened r ≡ opened (rowIn t k)
+  Back k r = r .turn .0 ≡ n → openingOf r ≡ openingOf (rowIn t k)
 
   -- so it is after a row is set, if so it is of that row
   back-set : (i : ℕ) (r : Row) → i < jobs → Back i r → Back j (rowOf (set (t .rows) i r) j)
@@ -39,27 +39,27 @@ module _ {T n : ℕ} (t : Table) (along : Along T n t) (some : 0 < n) (j : ℕ) 
       (λ q. absurd (omega (arith, along .given)))
   back (Ask i tick s) ok =
       back-set i (askedRow t (rowIn t i) (timeAt t (tick .0)) s) (ask-acts jobs t i tick s ok .below)
-      (λ q. either opened (blocked (t .rows) (rowIn t i .turn .0) s) _ _ refl)
+      (λ q. either openingOf (blocked (t .rows) (rowIn t i .turn .0) s) _ _ refl)
   back (Release i tick s) ok =
       back-set i (releasedRow (rowIn t i) s) (release-acts jobs t i tick s ok .below) (λ q. refl)
   back (Complete i tick) ok =
       let left = set (t .rows) i idle in
-      let sweep : opened (rowOf (settled (t .tokens) left) j) ≡ opened (rowOf left j) =
-      ap opened (row-settled (t .tokens) left j) ∙ swept-keeps (t .tokens) left (rowOf left j) in
+      let sweep : openingOf (rowOf (settled (t .tokens) left) j) ≡ openingOf (rowOf left j) =
+      ap openingOf (row-settled (t .tokens) left j) ∙ swept-keeps (t .tokens) left (rowOf left j) in
       λ q.
       sweep
       ∙ back-set i idle (complete-acts jobs t i tick ok .below) (λ z. absurd (omega arith))
       (ap (λ (r : Row). r .turn .0) (sym sweep) ∙ q)
 
   back-next :
-      (e : Event) → rowIn (next jobs t e) j .turn .0 ≡ n → opened (rowIn (next jobs t e) j) ≡ opened (rowIn t j)
+      (e : Event) → rowIn (next jobs t e) j .turn .0 ≡ n → openingOf (rowIn (next jobs t e) j) ≡ openingOf (rowIn t j)
   back-next e =
-      next-either t e (λ b u. rowIn u j .turn .0 ≡ n → opened (rowIn u j) ≡ opened (rowIn t j)) (back e) (λ q. refl)
+      next-either t e (λ b u. rowIn u j .turn .0 ≡ n → openingOf (rowIn u j) ≡ openingOf (rowIn t j)) (back e) (λ q. refl)
 
 -- a row that bears turn n at the end bore it all along, and declared what it declares
 pub back-run :
     {T n : ℕ} (t : Table) → Along T n t → 0 < n → (j : ℕ) (es : List Event) → rowIn (run t es) j .turn .0 ≡ n →
-    opened (rowIn (run t es) j) ≡ opened (rowIn t j)
+    openingOf (rowIn (run t es) j) ≡ openingOf (rowIn t j)
 unfolding run
 back-run t along some j [] q = refl
 back-run t along some j (e ∷ es) q =

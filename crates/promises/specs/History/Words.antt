@@ -9,7 +9,7 @@ use Rattle.event.specs.declared.events.Event.the-variants.{Beat, Open, Ask, Rel
 use Rattle.laws.specs.Bools.{bit}
 use Rattle.laws.specs.Cases.{Outcome, refused, fine}
 use Rattle.event.specs.Limits.{jobs}
-use Rattle.rows.specs.Order.{opened}
+use Rattle.rows.specs.Order.{openingOf}
 use Rattle.rows.specs.declared.row.Row.{Row}
 use Rattle.arbiter.specs.Meaning.{answer, next, wakes}
 use Rattle.arbiter.specs.declared.table.Table.{Table}
@@ -77,7 +77,7 @@ pub record Along (T n : ℕ) (t : Table) : Type 0 where
 
 -- a test by what a row was opened with passes only live rows of lower turn than n
 pub record Lower (n : ℕ) (f : Row → Bool) : Type 0 where
-  pub by-opening : (r : Row) → f (opened r) ≡ f r
+  pub by-opening : (r : Row) → f (openingOf r) ≡ f r
   pub idle-fails : (r : Row) → r .turn .0 ≡ 0 → f r ≡ false
   pub late-fails : (r : Row) → n ≤ r .turn .0 → f r ≡ false
 

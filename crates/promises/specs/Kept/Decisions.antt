@@ -9,7 +9,7 @@ use borrow.Author.Tests.{le-ltb, lt-ltb, ltb-true, ltb-false}
 use lib.Arith.{le-zero}
 use Rattle.laws.specs.Sets.{union}
 use Rattle.rows.specs.Order.{blocked, inWay, waiting}
-use Rattle.rows.specs.Sweep.{rested, swept}
+use Rattle.rows.specs.Sweep.{restedRow, sweptRow}
 use Rattle.rows.specs.declared.row.Row.{Row}
 use Rattle.arbiter.specs.Meaning.{askedRow}
 use Rattle.arbiter.specs.declared.table.Table.{Table}
@@ -57,10 +57,10 @@ asks t time s r nothing = go (blocked (t .rows) (r .turn .0) s) refl
 module _ (T : ℕ) (rows : List Row) (r : Row) where
   rest :
       (g : Row) → g .turn .0 ≡ r .turn .0 → g .declared ≡ r .declared → g .since ≡ r .since →
-      Decided rows (r .asked) r (g .held) (g .asked) → Swept T rows r (rested T rows g)
+      Decided rows (r .asked) r (g .held) (g .asked) → Swept T rows r (restedRow T rows g)
   rest g turn declared since d = go (waiting T rows g) refl
     where
-      go : (b : Bool) → waiting T rows g ≡ b → Swept T rows r (rested T rows g)
+      go : (b : Bool) → waiting T rows g ≡ b → Swept T rows r (restedRow T rows g)
       go true e =
           rw e
           (record {
@@ -80,9 +80,9 @@ module _ (T : ℕ) (rows : List Row) (r : Row) where
             rests = λ _. refl;
           })
 
-  pub sweeps : Swept T rows r (swept T rows r)
+  pub sweeps : Swept T rows r (sweptRow T rows r)
   sweeps = go (blocked rows (r .turn .0) (r .asked)) refl
     where
-      go : (b : Bool) → blocked rows (r .turn .0) (r .asked) ≡ b → Swept T rows r (swept T rows r)
+      go : (b : Bool) → blocked rows (r .turn .0) (r .asked) ≡ b → Swept T rows r (sweptRow T rows r)
       go true e = rw e (rest r refl refl refl (waits (ltb-true 0 (inWay rows (r .turn .0) (r .asked)) e) refl refl))
       go false e = rw e (rest _ refl refl refl (grants (le-zero (ltb-false 0 (inWay rows (r .turn .0) (r .asked)) e)) refl refl))

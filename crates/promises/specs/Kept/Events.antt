@@ -20,7 +20,7 @@ use Rattle.rows.specs.InWay.{in-way-empty, in-way-inside}
 use Rattle.rows.specs.Order.{ahead, idle, token, waiting}
 use Rattle.rows.specs.OrderLaws.{ahead-set, in-way-set}
 use Rattle.rows.specs.SweepLaws.{distinct-settled, row-settled, swept-idle}
-use Rattle.rows.specs.Sweep.{settled, swept}
+use Rattle.rows.specs.Sweep.{settled, sweptRow}
 use Rattle.rows.specs.Turns.{at-set, distinct-rows, distinct-set, distinct-test, live-within, waiting-reads}
 use Rattle.rows.specs.declared.row.Row.{Row}
 use Rattle.arbiter.specs.Meaning.{accepted, askedRow, moved, openedRow, releasedRow, timeAt}
@@ -214,13 +214,13 @@ module _ (t : Table) (tick : Tick) (p : SoundTable t) (in-time : timeAt t (tick 
           (waiting-reads (t .tokens) (left t j) r′ (omega (arith, w .turn)) .fails .1
           (omega (arith, alike-settled (t .tokens) (left t j) (r′ .turn .0) .same-ahead), nothing))
 
-  swept-kept : {r : Row} → SoundRow t r → SoundRow (accepted t (Complete j tick)) (swept (t .tokens) (left t j) r)
+  swept-kept : {r : Row} → SoundRow t r → SoundRow (accepted t (Complete j tick)) (sweptRow (t .tokens) (left t j) r)
   swept-kept {r} q = record {
-    idles = λ z. ap (swept (t .tokens) (left t j)) (q .idles (sym (w .turn) ∙ z)) ∙ swept-idle (t .tokens) (left t j);
+    idles = λ z. ap (sweptRow (t .tokens) (left t j)) (q .idles (sym (w .turn) ∙ z)) ∙ swept-idle (t .tokens) (left t j);
     lives = λ l. let alive : 0 < r .turn .0 = omega (arith, w .turn) in swept-live alive (q .lives alive) w;
   }
     where
-      w : Swept (t .tokens) (left t j) r (swept (t .tokens) (left t j) r)
+      w : Swept (t .tokens) (left t j) r (sweptRow (t .tokens) (left t j) r)
       w = sweeps (t .tokens) (left t j) r
 
   completed-kept : SoundTable (accepted t (Complete j tick))
@@ -234,7 +234,7 @@ module _ (t : Table) (tick : Tick) (p : SoundTable t) (in-time : timeAt t (tick 
         ∙ distinct-test (left t j) (distinct-set (t .rows) j idle h (p .distinct) (λ k ne l. absurd (lt-irrefl 0 l))));
     rows = λ k.
         rw (row-settled (t .tokens) (left t j) k)
-        (at-set (λ _ r. SoundRow (accepted t (Complete j tick)) (swept (t .tokens) (left t j) r)) (t .rows) j idle h
+        (at-set (λ _ r. SoundRow (accepted t (Complete j tick)) (sweptRow (t .tokens) (left t j) r)) (t .rows) j idle h
         (swept-kept (idle-sound t)) (λ k _. swept-kept (p .rows k)) k);
   }
 

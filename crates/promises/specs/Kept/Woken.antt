@@ -17,7 +17,7 @@ use Rattle.rows.specs.LineLaws.{Each, each-head, each-tail}
 use Rattle.rows.specs.Line.{keep, line}
 use Rattle.rows.specs.Order.{idle, waiting}
 use Rattle.rows.specs.SweepLaws.{row-settled}
-use Rattle.rows.specs.Sweep.{swept, woken}
+use Rattle.rows.specs.Sweep.{sweptRow, woken}
 use Rattle.rows.specs.Turns.{live-within, waiting-reads}
 use Rattle.rows.specs.declared.row.Row.{Row}
 use Rattle.arbiter.specs.Meaning.{accepted, askedRow, next, openedRow, releasedRow, timeAt, wakes}
@@ -74,7 +74,7 @@ fate n t (Complete j tick) ok k = go (ℕ-discrete k j)
     go (no e) =
         let left = set (t .rows) j idle in
         stayed refl left
-        (row-settled (t .tokens) left k ∙ ap (swept (t .tokens) left) (getD-set-other (t .rows) j k idle idle e))
+        (row-settled (t .tokens) left k ∙ ap (sweptRow (t .tokens) left) (getD-set-other (t .rows) j k idle idle e))
         (alike-settled (t .tokens) left (rowIn t k .turn .0))
 
 -- ---- Who is woken
@@ -158,7 +158,7 @@ module _ (n : ℕ) (t : Table) (e : Event) (ok : Accepts n t e) (k : ℕ) where
 
   -- what a sweep says of the row of one who stayed
   swept-so :
-      (rows : List Row) → rowIn (accepted t e) k ≡ swept (t .tokens) rows (rowIn t k) →
+      (rows : List Row) → rowIn (accepted t e) k ≡ sweptRow (t .tokens) rows (rowIn t k) →
       Swept (t .tokens) rows (rowIn t k) (rowIn (accepted t e) k)
   swept-so rows row = subst (Swept (t .tokens) rows (rowIn t k)) (sym row) (sweeps (t .tokens) rows (rowIn t k))
 

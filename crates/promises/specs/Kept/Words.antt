@@ -13,7 +13,7 @@ use mathlib.Core.List.{List}
 use Rattle.laws.specs.Sets.{union}
 use Rattle.rows.specs.declared.row.Row.{Row}
 use Rattle.event.specs.declared.events.Event.the-variants.{Beat, Open, Ask, Release, Complete}
-use Rattle.rows.specs.Sweep.{swept}
+use Rattle.rows.specs.Sweep.{sweptRow}
 use Rattle.arbiter.specs.Meaning.{accepted, answer, overdue, report}
 use Rattle.promises.specs.History.Words.{names}
 use mathlib.Core.Logic.{_≢_}
@@ -94,7 +94,7 @@ pub data Fate (t : Table) (e : Event) (k : ℕ) : Type 0 where
       rowIn (accepted t e) k ≡ rowIn t k → Alike (t .rows) (accepted t e .rows) (rowIn t k .turn .0) → Fate t e k
   acted : names k e ≡ true → waiting (t .tokens) (t .rows) (rowIn t k) ≡ false → Fate t e k
   stayed :
-      completes e ≡ true → (rows : List Row) → rowIn (accepted t e) k ≡ swept (t .tokens) rows (rowIn t k) →
+      completes e ≡ true → (rows : List Row) → rowIn (accepted t e) k ≡ sweptRow (t .tokens) rows (rowIn t k) →
       Alike rows (accepted t e .rows) (rowIn t k .turn .0) → Fate t e k
 
 -- ---- Refusal 3

@@ -7,7 +7,7 @@ use native.Mathlib.Omega.{arith}
 use lib.ListN.{List·getD-map, set}
 use Rattle.rows.specs.Line.{rowOf}
 use Rattle.rows.specs.Order.{earlier, idle, waiting}
-use Rattle.rows.specs.Sweep.{settled, swept}
+use Rattle.rows.specs.Sweep.{settled, sweptRow}
 use Rattle.rows.specs.SweepLaws.{swept-idle, swept-keeps}
 use Rattle.rows.specs.Turns.{earlier-turn, turn-earlier}
 use Rattle.rows.specs.declared.row.Row.{Row}
@@ -77,25 +77,25 @@ module _ (n : ℕ) (rows : List Row) where
   pub settled-up-to : (T : ℕ) → upTo n (settled T rows) ≡ settled T (upTo n rows)
   unfolding settled
   settled-up-to T =
-      map-map (seen (n + 1)) (swept T rows) rows
+      map-map (seen (n + 1)) (sweptRow T rows) rows
       ∙ ap (λ (f : Row → Row). map f rows) (fun-ext each)
-      ∙ sym (map-map (swept T (upTo n rows)) (seen (n + 1)) rows)
+      ∙ sym (map-map (sweptRow T (upTo n rows)) (seen (n + 1)) rows)
     where
-      each : (r : Row) → seen (n + 1) (swept T rows r) ≡ swept T (upTo n rows) (seen (n + 1) r)
+      each : (r : Row) → seen (n + 1) (sweptRow T rows r) ≡ sweptRow T (upTo n rows) (seen (n + 1) r)
       each r = go (earlier (n + 1) r) refl
         where
-          same : earlier (n + 1) (swept T rows r) ≡ earlier (n + 1) r
+          same : earlier (n + 1) (sweptRow T rows r) ≡ earlier (n + 1) r
           same = ap (earlier (n + 1)) (swept-keeps T rows r)
 
-          go : (b : Bool) → earlier (n + 1) r ≡ b → seen (n + 1) (swept T rows r) ≡ swept T (upTo n rows) (seen (n + 1) r)
+          go : (b : Bool) → earlier (n + 1) r ≡ b → seen (n + 1) (sweptRow T rows r) ≡ sweptRow T (upTo n rows) (seen (n + 1) r)
           go true e =
-              seen-in (n + 1) (swept T rows r) (same ∙ e)
+              seen-in (n + 1) (sweptRow T rows r) (same ∙ e)
               ∙ swept-alike T r (alike-among r e)
-              ∙ ap (swept T (upTo n rows)) (sym (seen-in (n + 1) r e))
+              ∙ ap (sweptRow T (upTo n rows)) (sym (seen-in (n + 1) r e))
           go false e =
-              seen-out (n + 1) (swept T rows r) (same ∙ e)
+              seen-out (n + 1) (sweptRow T rows r) (same ∙ e)
               ∙ sym (swept-idle T (upTo n rows))
-              ∙ ap (swept T (upTo n rows)) (sym (seen-out (n + 1) r e))
+              ∙ ap (sweptRow T (upTo n rows)) (sym (seen-out (n + 1) r e))
 
 -- a row set is a row set
 pub set-up-to : (n : ℕ) (rows : List Row) (j : ℕ) (r : Row) → upTo n (set rows j r) ≡ set (upTo n rows) j (seen (n + 1) r)

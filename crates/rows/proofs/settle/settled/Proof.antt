@@ -13,13 +13,13 @@ use Rattle.event.specs.Limits.{jobs}
 use Rattle.rows.specs.Order.{idle}
 use Rattle.rows.specs.Stand.{unknown}
 use Rattle.rows.specs.SweepLaws.{length-settled, row-settled}
-use Rattle.rows.specs.Sweep.{settled, swept}
+use Rattle.rows.specs.Sweep.{settled, sweptRow}
 use Rattle.rows.specs.declared.row.Row.{Row}
 use Rattle.rows.proofs.settle.settled.Statement.{statement}
 use Rattle.rows.proofs.settle.settled.Tie as tie
 
 abbrev Swept : ℕ → List Row → ℕ → Row → Type 0
-Swept T rows j x = x ≡ swept T rows (rowOf rows j)
+Swept T rows j x = x ≡ sweptRow T rows (rowOf rows j)
 
 abbrev Inv-loop : tie.InvT-loop
 Inv-loop tokens rows standings next₀ i₀ next i = (i ≤ jobs) × (length next ≡ jobs) × Filled (Swept tokens rows) idle next i
