@@ -9,8 +9,9 @@ use Rattle.laws.specs.CaseLaws.{acceptance-tells, refusal-tells}
 use Rattle.laws.specs.Cases.{fine, outcome, refused}
 use Rattle.laws.specs.Front.{over}
 use lib.ListN.{length}
-use Rattle.arbiter.specs.Meaning.{accepted, answer, listed, next, told, wakes}
-use Rattle.arbiter.specs.Promises.{Answered, AnsweredInto, Does, Refuses}
+use Rattle.arbiter.specs.Meaning.{accepted, answer, listed, next, said, wakes}
+use Rattle.arbiter.specs.Promises.{Answered, AnsweredInto}
+use Rattle.arbiter.specs.Effects.{Does, Refuses}
 use Rattle.arbiter.specs.Refusals.{cases}
 use Rattle.arbiter.specs.declared.table.Next.{Next}
 use Rattle.arbiter.specs.declared.table.Table.{Table}
@@ -21,18 +22,18 @@ module _ (n : ℕ) (t : Table) (e : Event) (time : ℕ) (r : Next) where
   unfolding answer next
   refused-answers refusal v p =
       record {
-        says = p .says ∙ sym (refusal-tells (cases n t e) time (numberOf refusal) (sym v) .1 (told t e));
+        says = p .says ∙ sym (refusal-tells (cases n t e) time (numberOf refusal) (sym v) .1 (said t e));
         hands = p .hands ∙ sym (refusal-tells (cases n t e) time (numberOf refusal) (sym v) .2 t (accepted t e));
       }
 
   -- the table is made with the time that the verdict gave
   pub accepted-answers :
-      (x : ℕ) (table : ℕ → Table) → fine x ≡ outcome (cases n t e) time → table time ≡ accepted t e → Does (told t e) (table x) r →
+      (x : ℕ) (table : ℕ → Table) → fine x ≡ outcome (cases n t e) time → table time ≡ accepted t e → Does (said t e) (table x) r →
       Answered n t e r
   unfolding answer next
   accepted-answers x table v made p =
       record {
-        says = p .says ∙ sym (acceptance-tells (cases n t e) time x (sym v) .2 (told t e));
+        says = p .says ∙ sym (acceptance-tells (cases n t e) time x (sym v) .2 (said t e));
         hands =
             p .hands ∙ ap table (sym (acceptance-tells {B = ℕ} (cases n t e) time x (sym v) .1)) ∙ made
             ∙ sym (acceptance-tells (cases n t e) time x (sym v) .3 t (accepted t e));
@@ -53,7 +54,7 @@ module _ (t : Table) (e : Event) (time : ℕ) (before : List ℕ) (r : Next) whe
 
   pub accepted-answers-into :
       (after : List ℕ) (x : ℕ) (table : ℕ → Table) → fine x ≡ outcome (cases (length before) t e) time →
-      table time ≡ accepted t e → Does (told t e) (table x) r → after ≡ over (wakes t e) before → AnsweredInto t e before r after
+      table time ≡ accepted t e → Does (said t e) (table x) r → after ≡ over (wakes t e) before → AnsweredInto t e before r after
   unfolding listed
   accepted-answers-into after x table v made p l =
       record {

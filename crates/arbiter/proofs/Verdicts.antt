@@ -1,5 +1,5 @@
 -- What accepted cases tell of the job and of the table.
-use Prim.Native.Nat.{ℕ, _-_, _<_, _^_}
+use Prim.Native.Nat.{ℕ, _<_, _^_}
 use mathlib.Core.Bool.{not, true, _&&_}
 use mathlib.Core.List.{List}
 use mathlib.Core.Path.{_≡_, sym, ap, _∙_}
@@ -8,13 +8,13 @@ use native.Mathlib.Omega.{arith}
 use lib.Dec.{leb}
 use Rattle.event.specs.Clock.{momentOf}
 use Rattle.event.specs.declared.clock.Moment.{Moment}
-use Rattle.laws.specs.Cases.{Case, Outcome, ascending, case, fine, outcome}
+use Rattle.laws.specs.Cases.{Case, Outcome, positive, case, fine, outcome}
 use Rattle.laws.specs.CaseLaws.{acceptance-tells, clear}
 use Rattle.laws.specs.BoolLaws.{and-left, and-right}
-use Rattle.laws.specs.Lists.{all}
-use Rattle.event.specs.Limits.{jobs}
+use Rattle.laws.specs.Lists.{all, holds}
+use Rattle.event.specs.Limits.{highest, jobs}
 use Rattle.rows.specs.Order.{distinct}
-use Rattle.arbiter.specs.Sound.{counters, holds, ranges, sound, soundRow}
+use Rattle.arbiter.specs.Sound.{counters, ranges, sound, soundRow}
 use Rattle.arbiter.specs.declared.table.Table.{Table}
 
 -- a verdict that turned out to be w says what it was judged to say
@@ -23,18 +23,18 @@ judged is e = sym (ap momentOf is) ∙ e
 
 -- where case 4 is among the cases and none applies, the job has a row
 pub has-row :
-    (cs : List Case) (j x n : ℕ) → ascending cs ≡ true → case 4 cs ≡ leb jobs j → fine n ≡ outcome cs x → j < jobs
-has-row cs j x n up is e = leb-false jobs j (sym is ∙ clear 0 4 cs up (acceptance-tells {B = ℕ} cs x n (sym e) .0))
+    (cs : List Case) (j x n : ℕ) → positive cs ≡ true → case 4 cs ≡ leb jobs j → fine n ≡ outcome cs x → j < jobs
+has-row cs j x n some is e = leb-false jobs j (sym is ∙ clear 4 cs some (acceptance-tells {B = ℕ} cs x n (sym e) .0))
 
 -- where case 3 is among the cases and none applies, the last turn is in range
 pub last-in-range :
-    (cs : List Case) (t : Table) (x n : ℕ) → ascending cs ≡ true → case 3 cs ≡ not (sound t) → fine n ≡ outcome cs x →
+    (cs : List Case) (t : Table) (x n : ℕ) → positive cs ≡ true → case 3 cs ≡ not (sound t) → fine n ≡ outcome cs x →
     t .last .0 < 2 ^ 63
 unfolding sound all
-last-in-range cs t x n up is e =
-    let ok : sound t ≡ true = not-false (sound t) (sym is ∙ clear 0 3 cs up (acceptance-tells {B = ℕ} cs x n (sym e) .0)) in
+last-in-range cs t x n some is e =
+    let ok : sound t ≡ true = not-false (sound t) (sym is ∙ clear 3 cs some (acceptance-tells {B = ℕ} cs x n (sym e) .0)) in
     let numbers : (holds (ranges (t .tokens) (t .resources) (t .limit)) && holds (counters (t .time) (t .last .0))) ≡ true =
     and-left _ (distinct (t .rows)) (and-left _ (all (soundRow t) (t .rows)) ok) in
     let both = and-right (holds (ranges (t .tokens) (t .resources) (t .limit))) (holds (counters (t .time) (t .last .0))) numbers in
-    let last = and-left (leb (t .last .0) (2 ^ 63 - 1)) true (and-right (leb (t .time) (2 ^ 63 - 1)) _ both) in
-    omega (arith, leb-true (t .last .0) (2 ^ 63 - 1) last)
+    let last = and-left (leb (t .last .0) highest) true (and-right (leb (t .time) highest) _ both) in
+    omega (arith, leb-true (t .last .0) highest last)

@@ -12,17 +12,17 @@ use Rattle.arbiter.specs.declared.table.Reported.the-variants as Reports
 
 -- what an accepted event is told: "token", "granted", "wait", simply done, or how many jobs it woke
 pub data Said : Type 0 where
-  token granted wait done : Said
-  woke : ℕ → Said
+  saysToken saysGranted saysWait saysDone : Said
+  saysWoke : ℕ → Said
 
 -- what the answer to an event or a start says
 abbrev pub saidOf : Answer → Outcome Said
 saidOf (Answers.No r) = refused (numberOf r)
-saidOf Answers.Token = fine token
-saidOf Answers.Granted = fine granted
-saidOf Answers.Wait = fine wait
-saidOf Answers.Done = fine done
-saidOf (Answers.Woke n) = fine (woke n)
+saidOf Answers.Token = fine saysToken
+saidOf Answers.Granted = fine saysGranted
+saidOf Answers.Wait = fine saysWait
+saidOf Answers.Done = fine saysDone
+saidOf (Answers.Woke n) = fine (saysWoke n)
 
 -- what the answer to a report says
 abbrev pub reportOf : Reported → Outcome Report

@@ -1,8 +1,12 @@
 -- What the calls mean: document 01, from "What a table holds" to "Refusal numbers".
 pub mod Answers
+pub mod ByStanding
+pub mod Effects
 pub mod Meaning
+pub mod OwnRow
 pub mod Promises
 pub mod Readings
 pub mod RefusalLaws
 pub mod Refusals
 pub mod Sound
+pub mod Verdicts

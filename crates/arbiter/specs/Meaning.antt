@@ -5,20 +5,19 @@ use mathlib.Core.List.{List, [], _∷_}
 use lib.Dec.{leb}
 use lib.ListN.{length, replicate, set}
 use Rattle.event.specs.Clock.{difference}
+use Rattle.event.specs.Events.{about, hasJob, jobOf, opens, tickOf}
 use Rattle.event.specs.declared.events.Event.{Event}
 use Rattle.event.specs.declared.events.Event.the-variants.{Beat, Open, Ask, Release, Complete}
 use Rattle.laws.specs.Cases.{Outcome, leaves, outcome}
 use Rattle.laws.specs.Front.{over}
 use Rattle.laws.specs.Sets.{union, without}
-use Rattle.rows.specs.Known.{waitingBy}
 use Rattle.rows.specs.Line.{keep, line, rowOf}
 use Rattle.event.specs.Limits.{jobs}
 use Rattle.rows.specs.Order.{ahead, blocked, idle, inWay, token, waiting}
 use Rattle.rows.specs.Sweep.{settled, woken}
 use Rattle.rows.specs.declared.row.Row.{Row}
-use Rattle.rows.specs.declared.stand.Standing.{Standing}
-use Rattle.arbiter.specs.Answers.{Said}
-use Rattle.arbiter.specs.Answers as Answers
+use Rattle.arbiter.specs.Answers.{Said, saysDone, saysGranted, saysToken, saysWait, saysWoke}
+use Rattle.arbiter.specs.Sound.{rowIn}
 use Rattle.arbiter.specs.Refusals.{cases, overdueCases, reportCases, startCases}
 use Rattle.arbiter.specs.declared.table.Report.{Report}
 use Rattle.arbiter.specs.declared.table.Table.{Table}
@@ -52,10 +51,6 @@ abbrev pub releasedRow : Row → ℕ → Row
 releasedRow r s =
     record { turn = r .turn; declared = r .declared; held = without (r .held) s; asked = r .asked; since = r .since }
 
--- the rows after a completion: the row is idle, and what the others wait for is settled anew
-abbrev pub completedRows : Table → ℕ → List Row
-completedRows t j = settled (t .tokens) (set (t .rows) j idle)
-
 -- ---- Accepted events
 
 -- the table at this time, with this last turn and these rows
@@ -70,46 +65,58 @@ moved t time last rows =
       rows = rows;
     }
 
+-- what an accepted event at this time makes of the row of its job
+abbrev pub rowAfter : Table → ℕ → Event → Row → Row
+rowAfter t time (Beat tick) r = r
+rowAfter t time (Open j tick s) r = openedRow t time s
+rowAfter t time (Ask j tick s) r = askedRow t r time s
+rowAfter t time (Release j tick s) r = releasedRow r s
+rowAfter t time (Complete j tick) r = idle
+
+-- the rows with that row in its place; the event of nobody changes none
+abbrev pub rowsWith : Table → Event → List Row
+rowsWith t e =
+    cond (hasJob (about e .role))
+    (set (t .rows) (jobOf e) (rowAfter t (timeAt t (tickOf e)) e (rowIn t (jobOf e))))
+    (t .rows)
+
+-- the rows after an accepted event: where it may wake others, what these wait for is settled anew
+abbrev pub rowsAfter : Table → Event → List Row
+rowsAfter t e = cond (about e .wakes) (settled (t .tokens) (rowsWith t e)) (rowsWith t e)
+
+-- the last turn given after an accepted event: an opening gives the next
+abbrev pub lastAfter : Table → Event → ℕ
+lastAfter t e = cond (opens (about e .role)) (t .last .0 + 1) (t .last .0)
+
 -- the next table of an accepted event
 abbrev pub accepted : Table → Event → Table
-accepted t (Beat tick) = moved t (timeAt t (tick .0)) (t .last .0) (t .rows)
-accepted t (Open j tick s) =
-    moved t (timeAt t (tick .0)) (t .last .0 + 1) (set (t .rows) j (openedRow t (timeAt t (tick .0)) s))
-accepted t (Ask j tick s) =
-    moved t (timeAt t (tick .0)) (t .last .0) (set (t .rows) j (askedRow t (rowOf (t .rows) j) (timeAt t (tick .0)) s))
-accepted t (Release j tick s) =
-    moved t (timeAt t (tick .0)) (t .last .0) (set (t .rows) j (releasedRow (rowOf (t .rows) j) s))
-accepted t (Complete j tick) = moved t (timeAt t (tick .0)) (t .last .0) (completedRows t j)
+accepted t e = moved t (timeAt t (tickOf e)) (lastAfter t e) (rowsAfter t e)
 
 -- the jobs that an accepted event wakes, in order of turn
 abbrev pub wakes : Table → Event → List ℕ
-wakes t (Beat tick) = []
-wakes t (Open j tick s) = []
-wakes t (Ask j tick s) = []
-wakes t (Release j tick s) = []
-wakes t (Complete j tick) = woken (t .tokens) (t .rows) (completedRows t j)
+wakes t e = cond (about e .wakes) (woken (t .tokens) (t .rows) (rowsAfter t e)) []
 
 -- an opening says "token" if it has one, else "wait"
-abbrev pub toldOpen : Table → Said
-toldOpen t = cond (token (t .tokens) (t .rows) (t .last .0 + 1)) Answers.token Answers.wait
+abbrev pub openSays : Table → Said
+openSays t = cond (token (t .tokens) (t .rows) (t .last .0 + 1)) saysToken saysWait
 
 -- an ask says "wait" where Q3 forbids the set, else "granted"
-abbrev pub toldAsk : Table → Row → ℕ → Said
-toldAsk t r s = cond (blocked (t .rows) (r .turn .0) s) Answers.wait Answers.granted
+abbrev pub askSays : Table → Row → ℕ → Said
+askSays t r s = cond (blocked (t .rows) (r .turn .0) s) saysWait saysGranted
 
 -- what an accepted event is told
-abbrev pub told : Table → Event → Said
-told t (Beat tick) = Answers.done
-told t (Open j tick s) = toldOpen t
-told t (Ask j tick s) = toldAsk t (rowOf (t .rows) j) s
-told t (Release j tick s) = Answers.done
-told t (Complete j tick) = Answers.woke (length (wakes t (Complete j tick)))
+abbrev pub said : Table → Event → Said
+said t (Beat tick) = saysDone
+said t (Open j tick s) = openSays t
+said t (Ask j tick s) = askSays t (rowIn t j) s
+said t (Release j tick s) = saysDone
+said t (Complete j tick) = saysWoke (length (wakes t (Complete j tick)))
 
 -- ---- Any event, refused or not
 
 -- the answer to an event, with a lent list of n entries
 unfoldable pub answer : ℕ → Table → Event → Outcome Said
-answer n t e = outcome (cases n t e) (told t e)
+answer n t e = outcome (cases n t e) (said t e)
 
 -- the table after an event
 unfoldable pub next : ℕ → Table → Event → Table
@@ -133,7 +140,7 @@ freshTable T R tick limit =
 
 -- the answer to a start: refused as 1, or simply done
 unfoldable pub startAnswer : ℕ → ℕ → ℕ → Outcome Said
-startAnswer T R limit = outcome (startCases T R limit) Answers.done
+startAnswer T R limit = outcome (startCases T R limit) saysDone
 
 -- a refused start hands back the all-zero table
 unfoldable pub startTable : ℕ → ℕ → ℕ → ℕ → Table
@@ -154,15 +161,11 @@ reported t r =
 
 -- the answer to a report of job j
 unfoldable pub report : Table → ℕ → Outcome Report
-report t j = outcome (reportCases t j) (reported t (rowOf (t .rows) j))
+report t j = outcome (reportCases t j) (reported t (rowIn t j))
 
 -- the job waits, and its wait up to this time is the limit or more
 abbrev pub lateJob : ℕ → ℕ → ℕ → List Row → ℕ → Bool
 lateJob T limit time rows j = waiting T rows (rowOf rows j) && leb limit (time - rowOf rows j .since)
-
--- the same by the job's row r and what is known of the row's turn
-abbrev pub lateBy : ℕ → ℕ → ℕ → Standing → Row → Bool
-lateBy T limit time s r = waitingBy T s r && leb limit (time - r .since)
 
 -- the waiting jobs whose wait up to this time is the limit or more, in order of turn
 unfoldable pub lateAt : Table → ℕ → List ℕ

@@ -1,18 +1,16 @@
 -- What the tests on sets say of single resources: the refusals 11 to 15, Q3, and the set conditions of a sound row.
-use Prim.Native.Nat.{ℕ, _≤_, _<_}
+use Prim.Native.Nat.{ℕ, _<_}
 use mathlib.Core.Bool.{Bool, true, false, true≢false}
-use mathlib.Core.List.{List, [], _∷_}
+use mathlib.Core.List.{List}
 use mathlib.Core.Logic.{_↔_}
 use mathlib.Core.Path.{_≡_, refl, sym, _∙_}
 use native.Mathlib.Omega.{arith}
 use borrow.Author.Tests.{eqb-false, eqb-true, le-leb, leb-true, lt-ltb, ltb-false, ltb-true}
 use lib.Dec.{eqb}
-use lib.ListN.{getD}
 use Rattle.event.specs.declared.clock.Tick.{Tick}
 use Rattle.event.specs.declared.events.Event.the-variants.{Ask, Release}
 use Rattle.laws.specs.Cases.{case}
-use Rattle.laws.specs.Counts.{all-each}
-use Rattle.laws.specs.Lists.{all}
+use Rattle.laws.specs.Lists.{holds}
 use Rattle.laws.specs.Reads.{Reads}
 use Rattle.laws.specs.ReadsLaws.{reading, reads-not}
 use Rattle.laws.specs.Sets.{below, inside, member}
@@ -21,43 +19,13 @@ use Rattle.rows.specs.InWay.{InTheWay, in-way-at, in-way-some}
 use Rattle.rows.specs.Line.{rowOf}
 use Rattle.rows.specs.Order.{blocked, inWay}
 use Rattle.rows.specs.declared.row.Row.{Row}
-use Rattle.arbiter.specs.Refusals.{cases, setCases}
-use Rattle.arbiter.specs.Sound.{holds, ownConditions}
+use Rattle.arbiter.specs.Refusals.{cases}
+use Rattle.arbiter.specs.Verdicts.{setCases}
+use Rattle.laws.specs.HoldLaws.{_and_, hold, none, nth}
+use Rattle.laws.specs.Members.{Above, Apart, Beyond, None, Shared, Some, Under, Within}
+use Rattle.arbiter.specs.OwnRow.{OwnRow}
+use Rattle.arbiter.specs.Sound.{ownConditions}
 use Rattle.arbiter.specs.declared.table.Table.{Table}
-
--- ---- Sets
-
--- s has a member
-abbrev pub Some : ℕ → Type 0
-Some s = (a : ℕ) × (member s a ≡ true)
-
--- s has none
-abbrev pub None : ℕ → Type 0
-None s = (a : ℕ) → member s a ≡ false
-
--- every member of s is a member of t
-abbrev pub Within : ℕ → ℕ → Type 0
-Within s t = (a : ℕ) → member s a ≡ true → member t a ≡ true
-
--- some member of s is no member of t
-abbrev pub Beyond : ℕ → ℕ → Type 0
-Beyond s t = (a : ℕ) × (member s a ≡ true) × (member t a ≡ false)
-
--- some member of s is a member of t
-abbrev pub Shared : ℕ → ℕ → Type 0
-Shared s t = (a : ℕ) × (member s a ≡ true) × (member t a ≡ true)
-
--- no member of s is a member of t
-abbrev pub Apart : ℕ → ℕ → Type 0
-Apart s t = (a : ℕ) → member s a ≡ true → member t a ≡ false
-
--- some member of s is R or above
-abbrev pub Above : ℕ → ℕ → Type 0
-Above s R = (a : ℕ) × (member s a ≡ true) × (R ≤ a)
-
--- every member of s is below R
-abbrev pub Under : ℕ → ℕ → Type 0
-Under s R = (a : ℕ) → member s a ≡ true → a < R
 
 -- a number is 0 exactly if it has no member
 empty-reads : (s : ℕ) → Reads (eqb s 0) (None s) (Some s)
@@ -121,46 +89,22 @@ blocked-reads rows n s =
 
 -- ---- Sound rows
 
--- tests that hold, one by one
-pub data Hold : List Bool → Type 0 where
-  none : Hold []
-  _and_ : {b : Bool} {bs : List Bool} → b ≡ true → Hold bs → Hold (b ∷ bs)
-
-infixr 5 _and_
-pub hold : {bs : List Bool} → Hold bs → holds bs ≡ true
-unfolding all
-hold none = refl
-hold (e and es) = rw e (hold es)
-
--- each holds, by its place
-pub nth : (bs : List Bool) → holds bs ≡ true → (k : ℕ) → getD bs k true ≡ true
-nth = all-each (λ b. b) true refl
-
--- a live row by itself, resource by resource
-pub record OwnRow (R last : ℕ) (r : Row) : Type 0 where
-  pub given : r .turn .0 ≤ last
-  pub declares : Some (r .declared)
-  pub in-range : Under (r .declared) R
-  pub held-declared : Within (r .held) (r .declared)
-  pub asked-declared : Within (r .asked) (r .declared)
-  pub apart : Apart (r .held) (r .asked)
-
-pub own-reads : (R last : ℕ) (r : Row) → (holds (ownConditions R last r) ≡ true) ↔ OwnRow R last r
-own-reads R last r = (
+pub own-reads : (t : Table) (r : Row) → (holds (ownConditions t r) ≡ true) ↔ OwnRow t r
+own-reads t r = (
   λ e.
       record {
-        given = leb-true _ _ (nth (ownConditions R last r) e 0);
-        declares = some-member (r .declared) (ltb-true _ _ (nth (ownConditions R last r) e 1));
-        in-range = below-reads (r .declared) R .holds .0 (nth (ownConditions R last r) e 2);
-        held-declared = inside-reads (r .held) (r .declared) .holds .0 (nth (ownConditions R last r) e 3);
-        asked-declared = inside-reads (r .asked) (r .declared) .holds .0 (nth (ownConditions R last r) e 4);
-        apart = reads-not _ (meets-reads (r .held) (r .asked)) .holds .0 (nth (ownConditions R last r) e 5);
+        given = leb-true _ _ (nth (ownConditions t r) e 0);
+        declares = some-member (r .declared) (ltb-true _ _ (nth (ownConditions t r) e 1));
+        in-range = below-reads (r .declared) (t .resources) .holds .0 (nth (ownConditions t r) e 2);
+        held-declared = inside-reads (r .held) (r .declared) .holds .0 (nth (ownConditions t r) e 3);
+        asked-declared = inside-reads (r .asked) (r .declared) .holds .0 (nth (ownConditions t r) e 4);
+        apart = reads-not _ (meets-reads (r .held) (r .asked)) .holds .0 (nth (ownConditions t r) e 5);
       },
   λ p.
       hold
       (le-leb _ _ (p .given)
       and lt-ltb 0 (r .declared) (omega (arith, eqb-false (r .declared) 0 (empty-reads (r .declared) .fails .1 (p .declares))))
-      and below-reads (r .declared) R .holds .1 (p .in-range)
+      and below-reads (r .declared) (t .resources) .holds .1 (p .in-range)
       and inside-reads (r .held) (r .declared) .holds .1 (p .held-declared)
       and inside-reads (r .asked) (r .declared) .holds .1 (p .asked-declared)
       and reads-not _ (meets-reads (r .held) (r .asked)) .holds .1 (p .apart)

@@ -1,11 +1,14 @@
 -- Sound tables, condition by condition in the order of document 01, "What a table holds".
 use Prim.Native.Nat.{ℕ, _-_, _^_}
-use mathlib.Core.Bool.{Bool, cond, not, _&&_, _||_}
+use mathlib.Core.Bool.{Bool, cond, not, _&&_}
 use mathlib.Core.List.{List, [], _∷_, _++_}
 use lib.Dec.{eqb, leb, ltb}
-use Rattle.laws.specs.Lists.{all}
+use Rattle.event.specs.Limits.{highest, most}
+use Rattle.laws.specs.Bools.{implies}
+use Rattle.laws.specs.Lists.{all, holds}
 use Rattle.laws.specs.Sets.{below, inside, meets}
-use Rattle.rows.specs.Order.{ahead, blocked, distinct, live}
+use Rattle.rows.specs.Line.{rowOf}
+use Rattle.rows.specs.Order.{blocked, distinct, live, token, waiting}
 use Rattle.rows.specs.declared.row.Row.{Row}
 use Rattle.arbiter.specs.declared.table.Table.{Table}
 
@@ -13,58 +16,97 @@ use Rattle.arbiter.specs.declared.table.Table.{Table}
 abbrev pub within : ℕ → ℕ → ℕ → Bool
 within low high n = leb low n && leb n high
 
+-- the row of a job
+abbrev pub rowIn : Table → ℕ → Row
+rowIn t j = rowOf (t .rows) j
+
+-- ---- The numbers of a table
+
 -- T, R and the limit in range
 abbrev pub ranges : ℕ → ℕ → ℕ → List Bool
-ranges T R limit = within 1 64 T ∷ within 1 64 R ∷ within 1 (2 ^ 32 - 1) limit ∷ []
+ranges T R limit = within 1 most T ∷ within 1 most R ∷ within 1 (2 ^ 32 - 1) limit ∷ []
 
--- true time and the last turn in range
+-- true time and the last turn at most 2^63-1
 abbrev pub counters : ℕ → ℕ → List Bool
-counters time last = leb time (2 ^ 63 - 1) ∷ leb last (2 ^ 63 - 1) ∷ []
+counters time last = leb time highest ∷ leb last highest ∷ []
+
+-- ---- Its rows; r is a row of table t
 
 -- an idle row is zero
-abbrev pub idleRow : Row → List Bool
-idleRow r = eqb (r .declared) 0 ∷ eqb (r .held) 0 ∷ eqb (r .asked) 0 ∷ eqb (r .since) 0 ∷ []
+abbrev pub idleConditions : Row → List Bool
+idleConditions r = eqb (r .declared) 0 ∷ eqb (r .held) 0 ∷ eqb (r .asked) 0 ∷ eqb (r .since) 0 ∷ []
 
--- a live row by itself: its turn is at most the last (that it is unlike any other is `distinct`);
--- its declared set is not empty and within R; held and asked are inside declared, and disjoint
-abbrev pub ownConditions : ℕ → ℕ → Row → List Bool
-ownConditions R last r =
-    leb (r .turn .0) last
-    ∷ ltb 0 (r .declared)
-    ∷ below (r .declared) R
-    ∷ inside (r .held) (r .declared)
-    ∷ inside (r .asked) (r .declared)
-    ∷ not (meets (r .held) (r .asked))
-    ∷ []
+-- its turn is at most the last turn; that it is unlike any other live turn is `distinct`
+abbrev pub turnGiven : Table → Row → Bool
+turnGiven t r = leb (r .turn .0) (t .last .0)
 
--- a live row among the others, of which `before` have a lower turn and forbid it the sets that pass `forbidden`:
--- nothing held or asked without a token; nothing held that is forbidden; a non-empty asked set is forbidden;
--- waiting since no later than true time, and since zero if it does not wait
-abbrev pub claimConditions : ℕ → ℕ → Row → ℕ → (ℕ → Bool) → List Bool
-claimConditions T time r before forbidden =
-    (ltb before T || eqb (r .held) 0)
-    ∷ (ltb before T || eqb (r .asked) 0)
-    ∷ not (forbidden (r .held))
-    ∷ (eqb (r .asked) 0 || forbidden (r .asked))
-    ∷ leb (r .since) time
-    ∷ (live r && (not (ltb before T) || ltb 0 (r .asked)) || eqb (r .since) 0)
-    ∷ []
+-- its declared set is not empty
+abbrev pub declaresSome : Row → Bool
+declaresSome r = ltb 0 (r .declared)
 
--- the conditions on any row
-abbrev pub rowConditions : ℕ → ℕ → ℕ → ℕ → Row → ℕ → (ℕ → Bool) → List Bool
-rowConditions T R time last r before forbidden =
-    cond (live r) (ownConditions R last r ++ claimConditions T time r before forbidden) (idleRow r)
+-- and within R
+abbrev pub declaredInRange : Table → Row → Bool
+declaredInRange t r = below (r .declared) (t .resources)
 
--- every one of these conditions holds
-abbrev pub holds : List Bool → Bool
-holds = all (λ b. b)
+-- held inside declared
+abbrev pub heldDeclared : Row → Bool
+heldDeclared r = inside (r .held) (r .declared)
+
+-- asked inside declared
+abbrev pub askedDeclared : Row → Bool
+askedDeclared r = inside (r .asked) (r .declared)
+
+-- held and asked disjoint
+abbrev pub heldNotAsked : Row → Bool
+heldNotAsked r = not (meets (r .held) (r .asked))
+
+-- it has a token, and Q3 forbids it a set, and it waits, all by the rows of the table
+abbrev pub tokenOf : Table → Row → Bool
+tokenOf t r = token (t .tokens) (t .rows) (r .turn .0)
+
+abbrev pub blockedIn : Table → Row → ℕ → Bool
+blockedIn t r s = blocked (t .rows) (r .turn .0) s
+
+abbrev pub waitingIn : Table → Row → Bool
+waitingIn t r = waiting (t .tokens) (t .rows) r
+
+-- if it holds something, it has a token
+abbrev pub heldByToken : Table → Row → Bool
+heldByToken t r = implies (ltb 0 (r .held)) (tokenOf t r)
+
+-- if it asks for something, it has a token
+abbrev pub askedByToken : Table → Row → Bool
+askedByToken t r = implies (ltb 0 (r .asked)) (tokenOf t r)
+
+-- no live row of lower turn declares what it holds
+abbrev pub heldFree : Table → Row → Bool
+heldFree t r = not (blockedIn t r (r .held))
+
+-- if it asks for something, a live row of lower turn declares some of it
+abbrev pub askedBlocked : Table → Row → Bool
+askedBlocked t r = implies (ltb 0 (r .asked)) (blockedIn t r (r .asked))
+
+-- it waits since no later than true time
+abbrev pub sinceInTime : Table → Row → Bool
+sinceInTime t r = leb (r .since) (t .time)
+
+-- if it does not wait, that is zero
+abbrev pub sinceByWaiting : Table → Row → Bool
+sinceByWaiting t r = implies (not (waitingIn t r)) (eqb (r .since) 0)
+
+-- what a live row meets by itself
+abbrev pub ownConditions : Table → Row → List Bool
+ownConditions t r =
+    turnGiven t r ∷ declaresSome r ∷ declaredInRange t r ∷ heldDeclared r ∷ askedDeclared r ∷ heldNotAsked r ∷ []
+
+-- what it meets by its place among the others
+abbrev pub placeConditions : Table → Row → List Bool
+placeConditions t r =
+    heldByToken t r ∷ askedByToken t r ∷ heldFree t r ∷ askedBlocked t r ∷ sinceInTime t r ∷ sinceByWaiting t r ∷ []
 
 -- a row is sound in its table
 abbrev pub soundRow : Table → Row → Bool
-soundRow t r =
-    holds
-    (rowConditions (t .tokens) (t .resources) (t .time) (t .last .0) r (ahead (t .rows) (r .turn .0))
-    (blocked (t .rows) (r .turn .0)))
+soundRow t r = holds (cond (live r) (ownConditions t r ++ placeConditions t r) (idleConditions r))
 
 -- the whole table is sound
 unfoldable pub sound : Table → Bool

@@ -1,7 +1,8 @@
 // The calls: start, the five events and the two questions. An event takes the table by value and returns the next.
 ghost use Rattle.event.specs.declared.events.Event.the-variants.{Ask, Beat, Complete, Open, Release};
 ghost use Rattle.event.specs.Limits.{jobs};
-ghost use Rattle.arbiter.specs.Promises.{Answered, AnsweredInto, Refuses, Reports, Started, ToldLate};
+ghost use Rattle.arbiter.specs.Promises.{Answered, AnsweredInto, Reports, Started, ToldLate};
+ghost use Rattle.arbiter.specs.Effects.{Refuses};
 use crate::effect::asked;
 use crate::effect::completed;
 use crate::effect::listed_late;

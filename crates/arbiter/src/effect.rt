@@ -7,9 +7,10 @@ ghost use Rattle.rows.specs.Line.{rowOf};
 ghost use Rattle.rows.specs.Marks.{Marks};
 ghost use Rattle.event.specs.Limits.{jobs};
 ghost use Rattle.rows.specs.Stand.{Surveyed};
-ghost use Rattle.arbiter.specs.Answers.{done};
-ghost use Rattle.arbiter.specs.Meaning.{askedRow, lateAt, lateBy, lateJob, moved, openedRow, releasedRow, reported, toldAsk, toldOpen};
-ghost use Rattle.arbiter.specs.Promises.{Completes, Does};
+ghost use Rattle.arbiter.specs.Answers.{saysDone};
+ghost use Rattle.arbiter.specs.Meaning.{askedRow, lateAt, lateJob, moved, openedRow, releasedRow, reported, askSays, openSays};
+ghost use Rattle.arbiter.specs.ByStanding.{lateBy};
+ghost use Rattle.arbiter.specs.Effects.{Completes, Does};
 use crate::table::Answer;
 use crate::table::Next;
 use crate::table::Report;
@@ -57,7 +58,7 @@ fn next_turn(last: Turn) -> Turn
 pub(crate) fn opened(t: Table, k: usize, time: u64, s: u64) -> Next
     requires { ⌜ k < jobs ⌝ }
     requires { ⌜ t .last .0 < 2 ^ 63 ⌝ }
-    ensures { λ r. ⌜ Does (toldOpen t) (moved t time (t .last .0 + 1) (set (t .rows) k (openedRow t time s))) r ⌝ }
+    ensures { λ r. ⌜ Does (openSays t) (moved t time (t .last .0 + 1) (set (t .rows) k (openedRow t time s))) r ⌝ }
 {
     let last = t.last;
     let rows = t.rows;
@@ -86,7 +87,7 @@ pub(crate) fn opened(t: Table, k: usize, time: u64, s: u64) -> Next
 pub(crate) fn asked(t: Table, known: Survey, k: usize, time: u64, s: u64) -> Next
     requires { ⌜ Surveyed (t .rows) known ⌝ }
     requires { ⌜ k < jobs ⌝ }
-    ensures { λ r. ⌜ Does (toldAsk t (rowOf (t .rows) k) s) (moved t time (t .last .0) (set (t .rows) k (askedRow t (rowOf (t .rows) k) time s))) r ⌝ }
+    ensures { λ r. ⌜ Does (askSays t (rowOf (t .rows) k) s) (moved t time (t .last .0) (set (t .rows) k (askedRow t (rowOf (t .rows) k) time s))) r ⌝ }
 {
     let last = t.last;
     let rows = t.rows;
@@ -113,7 +114,7 @@ pub(crate) fn asked(t: Table, known: Survey, k: usize, time: u64, s: u64) -> Nex
 // A release: the members are no longer held.
 pub(crate) fn released(t: Table, k: usize, time: u64, s: u64) -> Next
     requires { ⌜ k < jobs ⌝ }
-    ensures { λ r. ⌜ Does done (moved t time (t .last .0) (set (t .rows) k (releasedRow (rowOf (t .rows) k) s))) r ⌝ }
+    ensures { λ r. ⌜ Does saysDone (moved t time (t .last .0) (set (t .rows) k (releasedRow (rowOf (t .rows) k) s))) r ⌝ }
 {
     let last = t.last;
     let rows = t.rows;

@@ -1,12 +1,17 @@
 // Whether a table is sound: the conditions of document 01, "What a table holds".
-ghost use mathlib.Core.Bool.{_&&_, _||_};
+ghost use mathlib.Core.Bool.{_&&_};
 ghost use mathlib.Core.Path.{_≡_};
+ghost use Rattle.laws.specs.Bools.{implies};
 ghost use Rattle.laws.specs.Lists.{all};
 ghost use Rattle.laws.specs.Sets.{meets};
 ghost use Rattle.rows.specs.Stand.{Surveyed};
-ghost use Rattle.arbiter.specs.Sound.{claimConditions, counters, holds, idleRow, ownConditions, ranges, rowConditions, sound, soundRow};
+ghost use Rattle.arbiter.specs.ByStanding.{ownBy, placeBy, rowBy};
+ghost use Rattle.laws.specs.Lists.{holds};
+ghost use Rattle.arbiter.specs.Sound.{counters, idleConditions, ranges, sound, soundRow};
 use crate::table::Table;
+use event::HIGHEST;
 use event::JOBS;
+use event::MOST;
 use laws::sets::below;
 use laws::sets::inside;
 use laws::sets::meets;
@@ -18,9 +23,6 @@ use rows::earlier;
 use rows::live;
 use rows::token;
 use rows::waiting;
-
-// The last true time and the last turn, 2^63 - 1.
-pub(crate) const LAST: u64 = 9_223_372_036_854_775_807;
 
 // The numbers of a table that each of its rows is held against.
 struct Bounds {
@@ -37,19 +39,19 @@ fn both(a: bool, b: bool) -> bool
     a && b
 }
 
-// Whether one of the two holds; a call for the same reason.
-fn either(a: bool, b: bool) -> bool
-    ensures { λ r. ⌜ r ≡ (a || b) ⌝ }
+// Whether the second holds if the first does; a call for the same reason.
+fn implies(a: bool, b: bool) -> bool
+    ensures { λ r. ⌜ r ≡ implies a b ⌝ }
 {
-    a || b
+    !a || b
 }
 
 // Whether T, R and the limit are in range.
 pub(crate) fn in_range(tokens: u32, resources: u32, limit: u32) -> bool
     ensures { λ r. ⌜ r ≡ holds (ranges tokens resources limit) ⌝ }
 {
-    let t = both(1 <= tokens, tokens <= 64);
-    let r = both(1 <= resources, resources <= 64);
+    let t = both(1 <= tokens, tokens <= MOST);
+    let r = both(1 <= resources, resources <= MOST);
     both(t, both(r, both(1 <= limit, limit <= 4_294_967_295)))
 }
 
@@ -57,12 +59,12 @@ pub(crate) fn in_range(tokens: u32, resources: u32, limit: u32) -> bool
 fn counters_sound(time: u64, last: Turn) -> bool
     ensures { λ r. ⌜ r ≡ holds (counters time (last .0)) ⌝ }
 {
-    both(time <= LAST, !earlier(Turn(LAST), last))
+    both(time <= HIGHEST, !earlier(Turn(HIGHEST), last))
 }
 
 // Whether an idle row is zero.
 fn idle_sound(r: Row) -> bool
-    ensures { λ b. ⌜ b ≡ holds (idleRow r) ⌝ }
+    ensures { λ b. ⌜ b ≡ holds (idleConditions r) ⌝ }
 {
     let rest = both(r.asked == 0, r.since == 0);
     both(r.declared == 0, both(r.held == 0, rest))
@@ -70,7 +72,7 @@ fn idle_sound(r: Row) -> bool
 
 // What a live row meets by itself.
 fn own_sound(b: Bounds, r: Row) -> bool
-    ensures { λ x. ⌜ x ≡ holds (ownConditions (b .resources) (b .last .0) r) ⌝ }
+    ensures { λ x. ⌜ x ≡ holds (ownBy (b .resources) (b .last .0) r) ⌝ }
 {
     let last = b.last;
     let turn = r.turn;
@@ -83,30 +85,30 @@ fn own_sound(b: Bounds, r: Row) -> bool
 }
 
 // What a live row meets by its place among the others, `s` being what is known of its turn.
-fn claim_sound(b: Bounds, r: Row, s: Standing) -> bool
-    ensures { λ x. ⌜ x ≡ holds (claimConditions (b .tokens) (b .time) r (s .ahead) (meets (s .claims))) ⌝ }
+fn place_sound(b: Bounds, r: Row, s: Standing) -> bool
+    ensures { λ x. ⌜ x ≡ holds (placeBy (b .tokens) (b .time) r (s .ahead) (meets (s .claims))) ⌝ }
 {
     let has = token(s, b.tokens);
     let since = both(
         r.since <= b.time,
-        either(waiting(r, s, b.tokens), r.since == 0),
+        implies(!waiting(r, s, b.tokens), r.since == 0),
     );
-    let asks = both(either(r.asked == 0, meets(s.claims, r.asked)), since);
+    let asks = both(implies(0 < r.asked, meets(s.claims, r.asked)), since);
     let free = both(!meets(s.claims, r.held), asks);
     both(
-        either(has, r.held == 0),
-        both(either(has, r.asked == 0), free),
+        implies(0 < r.held, has),
+        both(implies(0 < r.asked, has), free),
     )
 }
 
 // Whether a row is sound, `s` being what is known of its turn.
 fn row_sound(b: Bounds, r: Row, s: Standing) -> bool
-    ensures { λ x. ⌜ x ≡ holds (rowConditions (b .tokens) (b .resources) (b .time) (b .last .0) r (s .ahead) (meets (s .claims))) ⌝ }
+    ensures { λ x. ⌜ x ≡ holds (rowBy (b .tokens) (b .resources) (b .time) (b .last .0) r (s .ahead) (meets (s .claims))) ⌝ }
 {
     if !live(r) {
         return idle_sound(r);
     }
-    both(own_sound(b, r), claim_sound(b, r, s))
+    both(own_sound(b, r), place_sound(b, r, s))
 }
 
 // Whether every row is sound.

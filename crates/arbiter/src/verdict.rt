@@ -1,19 +1,20 @@
 // Why an event is refused: the tests of document 01's refusals, put together from parts. Each part tests in the order of
 // the numbers, and a later part is asked only where the earlier ones accept.
-ghost use Prim.Native.Nat.{_-_, _^_, _<_};
+ghost use Prim.Native.Nat.{_<_};
 ghost use mathlib.Core.Path.{_≡_};
 ghost use lib.Dec.{eqb};
 ghost use Rattle.event.specs.Clock.{momentOf};
 ghost use Rattle.event.specs.declared.events.Event.the-variants.{Ask, Open, Release};
 ghost use Rattle.laws.specs.Cases.{outcome};
 ghost use Rattle.rows.specs.Line.{rowOf};
-ghost use Rattle.event.specs.Limits.{jobs};
+ghost use Rattle.event.specs.Limits.{highest, jobs};
 ghost use Rattle.rows.specs.Stand.{Surveyed};
 ghost use Rattle.arbiter.specs.Meaning.{timeAt};
-ghost use Rattle.arbiter.specs.Refusals.{actCases, actOnCases, actorCases, askCases, cases, entryCases, openCases, releaseCases, setCases, tickCases, turnCases};
-use crate::sound::LAST;
+ghost use Rattle.arbiter.specs.Verdicts.{actCases, actOnCases, actorCases, askCases, entryCases, openCases, releaseCases, setCases, tickCases, turnCases};
+ghost use Rattle.arbiter.specs.Refusals.{cases};
 use crate::sound::is_sound;
 use crate::table::Table;
+use event::HIGHEST;
 use event::JOBS;
 use event::Moment;
 use event::Refusal;
@@ -55,7 +56,7 @@ fn enter(t: Table, known: Survey, job: u32, tick: Tick) -> Moment
 fn actor_verdict(t: Table, known: Survey, k: usize, time: u64) -> Moment
     requires { ⌜ Surveyed (t .rows) known ⌝ }
     requires { ⌜ k < jobs ⌝ }
-    ensures { λ r. ⌜ momentOf r ≡ outcome (actorCases t (rowOf (t .rows) k)) time ⌝ }
+    ensures { λ r. ⌜ momentOf r ≡ outcome (actorCases t k) time ⌝ }
 {
     let row = t.rows[k];
     let standing = known.standings[k];
@@ -86,12 +87,12 @@ fn set_verdict(resources: u32, s: u64, time: u64) -> Moment
 
 // Whether the last turn is 2^63 - 1.
 fn spent(last: Turn) -> bool
-    ensures { λ r. ⌜ r ≡ eqb (last .0) (2 ^ 63 - 1) ⌝ }
+    ensures { λ r. ⌜ r ≡ eqb (last .0) highest ⌝ }
 {
-    if earlier(last, Turn(LAST)) {
+    if earlier(last, Turn(HIGHEST)) {
         return false;
     }
-    !earlier(Turn(LAST), last)
+    !earlier(Turn(HIGHEST), last)
 }
 
 // 16: the turns are not spent.

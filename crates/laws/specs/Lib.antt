@@ -6,8 +6,10 @@ pub mod Cases
 pub mod Counts
 pub mod Front
 pub mod FrontLaws
+pub mod HoldLaws
 pub mod ListLaws
 pub mod Lists
+pub mod Members
 pub mod Reads
 pub mod ReadsLaws
 pub mod SetLaws

@@ -4,8 +4,6 @@ use mathlib.Core.Bool.{Bool, true, false, _&&_, _||_}
 use mathlib.Core.List.{List, [], _∷_}
 use Rattle.laws.specs.Bools.{bit}
 
--- ---- Definitions
-
 module _ {A : Type 0} where
   -- how many elements pass
   unfoldable pub count : (A → Bool) → List A → ℕ
@@ -21,3 +19,7 @@ module _ {A : Type 0} where
   unfoldable pub all : (A → Bool) → List A → Bool
   all f [] = true
   all f (x ∷ l) = f x && all f l
+
+-- every one of these conditions holds
+abbrev pub holds : List Bool → Bool
+holds = all (λ b. b)

@@ -7,7 +7,7 @@ use Rattle.event.specs.declared.events.Entry.{Entry}
 use Rattle.event.specs.declared.events.Event.{Event}
 use Rattle.laws.specs.Cases.{Outcome, fine, refused}
 use Rattle.record.specs.Format.{left, wrote}
-use Rattle.arbiter.specs.Answers.{Said, done, granted, token, wait, woke}
+use Rattle.arbiter.specs.Answers.{Said, saysDone, saysGranted, saysToken, saysWait, saysWoke}
 use Rattle.arbiter.specs.Meaning.{answer, next}
 use Rattle.arbiter.specs.declared.table.Report.{Report}
 use Rattle.arbiter.specs.declared.table.Table.{Table}
@@ -23,20 +23,20 @@ refusalIn (fine a) = 0
 -- what was said: 0 a refusal, 1 "token", 2 "granted", 3 "wait", 4 simply done, 5 some were woken, or none
 abbrev pub saidIn : Outcome Said → ℕ
 saidIn (refused n) = 0
-saidIn (fine token) = 1
-saidIn (fine granted) = 2
-saidIn (fine wait) = 3
-saidIn (fine done) = 4
-saidIn (fine (woke n)) = 5
+saidIn (fine saysToken) = 1
+saidIn (fine saysGranted) = 2
+saidIn (fine saysWait) = 3
+saidIn (fine saysDone) = 4
+saidIn (fine (saysWoke n)) = 5
 
 -- how many were woken
 abbrev pub wokenIn : Outcome Said → ℕ
 wokenIn (refused n) = 0
-wokenIn (fine token) = 0
-wokenIn (fine granted) = 0
-wokenIn (fine wait) = 0
-wokenIn (fine done) = 0
-wokenIn (fine (woke n)) = n
+wokenIn (fine saysToken) = 0
+wokenIn (fine saysGranted) = 0
+wokenIn (fine saysWait) = 0
+wokenIn (fine saysDone) = 0
+wokenIn (fine (saysWoke n)) = n
 
 -- an event's answer and the next table
 abbrev pub eventInNumbers : Outcome Said → Table → Told
@@ -44,7 +44,7 @@ eventInNumbers o t = record { refusal = refusalIn o; said = saidIn o; woken = wo
 
 -- the report where there is none
 abbrev pub noReport : Report
-noReport = record { turn = record { 0 = 0 }; token = false; waiting = false; ahead = 0; in_way = 0 }
+noReport = record { turn = record { 0 = 0 }; saysToken = false; waiting = false; ahead = 0; in_way = 0 }
 
 -- the report that was given
 abbrev pub reportIn : Outcome Report → Report

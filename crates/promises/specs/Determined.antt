@@ -10,8 +10,9 @@ use Rattle.event.specs.declared.clock.Moment.the-variants as Moments
 use Rattle.event.specs.declared.refusal.Refusal.{Refusal}
 use Rattle.event.specs.declared.events.Event.{Event}
 use Rattle.laws.specs.Cases.{Outcome, fine, refused}
-use Rattle.arbiter.specs.Answers.{Said, done, granted, lateOf, reportOf, saidOf, token, wait, woke}
-use Rattle.arbiter.specs.Promises.{Answered, AnsweredInto, Completes, Does, Reports, Started, ToldLate}
+use Rattle.arbiter.specs.Answers.{Said, saysDone, saysGranted, lateOf, reportOf, saidOf, saysToken, saysWait, saysWoke}
+use Rattle.arbiter.specs.Promises.{Answered, AnsweredInto, Reports, Started, ToldLate}
+use Rattle.arbiter.specs.Effects.{Completes, Does}
 use Rattle.arbiter.specs.declared.table.Answer.{Answer}
 use Rattle.arbiter.specs.declared.table.Answer.the-variants as Answers
 use Rattle.arbiter.specs.declared.table.Late.{Late}
@@ -40,11 +41,11 @@ answerBy refuses is (fine b) = is b
 
 -- the answer to an event for what it is told
 abbrev toldBy : Said → Answer
-toldBy token = Answers.Token
-toldBy granted = Answers.Granted
-toldBy wait = Answers.Wait
-toldBy done = Answers.Done
-toldBy (woke n) = Answers.Woke n
+toldBy saysToken = Answers.Token
+toldBy saysGranted = Answers.Granted
+toldBy saysWait = Answers.Wait
+toldBy saysDone = Answers.Done
+toldBy (saysWoke n) = Answers.Woke n
 
 answer-said : (a : Answer) → answerBy Answers.No toldBy (saidOf a) ≡ a
 answer-said (Answers.No r) = ap Answers.No (refusalOf-numberOf r)

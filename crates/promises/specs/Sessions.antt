@@ -60,7 +60,7 @@ Claim P12 =
     answer jobs
     (run (startTable 2 2 0 50) (Open 1 (at 1) 3 ∷ Open 2 (at 2) 1 ∷ Ask 1 (at 3) 1 ∷ Release 1 (at 4) 1 ∷ []))
     (Ask 2 (at 5) 1)
-    ≡ fine Answers.wait
+    ≡ fine Answers.saysWait
 
 -- every session turns out as document 01 says
 pub worked : (session : Session) → Claim session

@@ -18,16 +18,15 @@ use Rattle.event.specs.Limits.{jobs}
 use Rattle.rows.specs.Order.{ahead, claims, distinct, inWay, live, token, waiting}
 use Rattle.rows.specs.Sweep.{settled, woken}
 use Rattle.rows.specs.declared.row.Row.{Row}
-use Rattle.arbiter.specs.Meaning.{accepted, answer, next, report, reported, run, startTable, told, wakes}
+use Rattle.arbiter.specs.Meaning.{accepted, answer, next, report, reported, run, startTable, said, wakes}
 use Rattle.arbiter.specs.Refusals.{cases, reportCases}
-use Rattle.arbiter.specs.Sound.{sound}
+use Rattle.arbiter.specs.Sound.{sound, rowIn}
 use Rattle.arbiter.specs.declared.table.Report.{Report}
 use Rattle.arbiter.specs.declared.table.Table.{Table}
 use Rattle.promises.specs.Demand.Statement.{Demand3, Supposed, n, now, opened, p}
 use Rattle.promises.specs.Demand.Example.{all-open, at, latecomer, now-is, past, set-waits, since, token-come, until}
 use Rattle.promises.specs.Demand.Holds.{bears, demand3}
 use Rattle.promises.specs.History.Words.{isFine, leavings, lists}
-use Rattle.promises.specs.Sound.Words.{rowIn}
 
 -- ---- The arbiter on trial
 
@@ -101,7 +100,7 @@ rouses-lists : (t : Table) (e : Event) → rouses t e ≡ lists t e
 unfolding answer outcome
 rouses-lists t e = go (first (cases jobs t e))
   where
-    go : (k : ℕ) → cond (eqb k 0) (wakes t e) [] ≡ cond (isFine (unless k (told t e))) (wakes t e) []
+    go : (k : ℕ) → cond (eqb k 0) (wakes t e) [] ≡ cond (isFine (unless k (said t e))) (wakes t e) []
     go zero = refl
     go (suc k) = ap (λ (b : Bool). cond b (wakes t e) []) (eqb·suc-zero k)
 

@@ -15,14 +15,13 @@ use Rattle.event.specs.Limits.{jobs}
 use Rattle.rows.specs.Order.{ahead, claims, distinct, idle, inWay}
 use Rattle.rows.specs.Sweep.{settled, woken}
 use Rattle.rows.specs.declared.row.Row.{Row}
-use Rattle.arbiter.specs.Answers.{Said, wait, woke}
+use Rattle.arbiter.specs.Answers.{Said, saysWait, saysWoke}
 use Rattle.arbiter.specs.Meaning.{answer, next, run, startAnswer, startTable}
-use Rattle.arbiter.specs.Sound.{sound}
+use Rattle.arbiter.specs.Sound.{sound, rowIn}
 use Rattle.arbiter.specs.declared.table.Table.{Table}
 use Rattle.promises.specs.Demand.Statement.{Demand3, Supposed, n, now, opened, p}
 use Rattle.promises.specs.Demand.Holds.{demand3}
 use Rattle.promises.specs.History.Words.{leavings, lists}
-use Rattle.promises.specs.Sound.Words.{rowIn}
 
 -- the tick of that number
 abbrev pub at : ℕ → Tick
@@ -134,11 +133,11 @@ answers t (e ∷ es) = answer jobs t e ∷ answers (next jobs t e) es
 pub record Shown : Type 0 where
   -- it is opened behind five; refused events count for nothing, and the second completion brings the token
   pub behind : this p ≡ 5
-  pub told-until : answers all-open until ≡ refused 9 ∷ refused 9 ∷ fine (woke 1) ∷ fine (woke 1) ∷ []
+  pub told-until : answers all-open until ≡ refused 9 ∷ refused 9 ∷ fine (saysWoke 1) ∷ fine (saysWoke 1) ∷ []
   -- three are then before it, two of them in the way; one of these leaves, and the set waits on
   pub before : ahead (token-come .rows) 6 ≡ 3
   pub way : inWay (token-come .rows) 6 37 ≡ 2
-  pub told-since : answers token-come since ≡ refused 5 ∷ fine wait ∷ fine wait ∷ fine (woke 1) ∷ []
+  pub told-since : answers token-come since ≡ refused 5 ∷ fine saysWait ∷ fine saysWait ∷ fine (saysWoke 1) ∷ []
   pub left : leavings (claims 6 37) token-come since ≡ 1
   -- when the other leaves too, it is listed
   pub wakes : lists set-waits (Complete 2 (at 7)) ≡ 3 ∷ 6 ∷ []

@@ -32,11 +32,11 @@ use Rattle.promises.specs.Kept.Soundness.{start-fresh, start-ranges}
 use Rattle.promises.specs.Kept.Words.{Accepts}
 use Rattle.promises.specs.Kept.Accepted.{answer-accepted}
 use Rattle.promises.specs.Sound.Tests.{ranges-in}
-use Rattle.promises.specs.Sound.Words.{rowIn}
+use Rattle.arbiter.specs.Sound.{rowIn}
 
 -- ---- The start
 
-module _ (T R limit : ℕ) (started : startAnswer T R limit ≡ fine Answers.done) where
+module _ (T R limit : ℕ) (started : startAnswer T R limit ≡ fine Answers.saysDone) where
   some-token : 1 ≤ T
   some-token = ranges-in T R limit (start-ranges T R limit started) .tokens .0
 
@@ -105,7 +105,7 @@ module _ (T R begin limit : ℕ) (past : List Event) (j : ℕ) (tick : Tick) (s 
       record {
         opening-says =
             answer-accepted jobs first-table (Open j tick s) open-ok
-            ∙ ap (λ (b : Bool). fine (cond b Answers.token Answers.wait))
+            ∙ ap (λ (b : Bool). fine (cond b Answers.saysToken Answers.saysWait))
             ((λ i. ltb (all-before first-table along-past j tick s open-ok i) (along-past .tokens i))
             ∙ below-at-most (count live (first-table .rows)) T some);
         token-comes =

@@ -25,7 +25,7 @@ use Rattle.promises.specs.History.Woken.{listed-after}
 use Rattle.promises.specs.Kept.Words.{Accepts, Alike}
 use Rattle.promises.specs.Kept.Accepted.{was-sound}
 use Rattle.promises.specs.Kept.Rows.{waiting-alike}
-use Rattle.promises.specs.Sound.Words.{rowIn}
+use Rattle.arbiter.specs.Sound.{rowIn}
 
 -- ---- Those in the way stand before it
 

@@ -29,7 +29,7 @@ use Rattle.promises.specs.Kept.Words.{Accepts}
 use Rattle.promises.specs.Kept.Accepted.{answer-accepted, ask-acts, next-accepted, passed}
 use Rattle.promises.specs.Kept.Decisions.{decided-sets}
 use Rattle.promises.specs.Kept.Named.{asked}
-use Rattle.promises.specs.Sound.Words.{rowIn}
+use Rattle.arbiter.specs.Sound.{rowIn}
 
 -- ---- A request that waits for a set
 
@@ -148,10 +148,10 @@ module _ {T n j : ℕ} {t : Table} (b : Bears T n j t) (tick : Tick) (x : ℕ) (
   ask-has-token =
       lt-ltb (ahead (t .rows) n) T (rw (b .along .tokens, b .turn) at (ask-acts jobs t j tick x ok .has))
 
-  pub ask-says : answer jobs t (Ask j tick x) ≡ fine (cond (blocked (t .rows) n x) Answers.wait Answers.granted)
+  pub ask-says : answer jobs t (Ask j tick x) ≡ fine (cond (blocked (t .rows) n x) Answers.saysWait Answers.saysGranted)
   ask-says =
       answer-accepted jobs t (Ask j tick x) ok
-      ∙ ap (λ (m : ℕ). fine (cond (blocked (t .rows) m x) Answers.wait Answers.granted)) (b .turn)
+      ∙ ap (λ (m : ℕ). fine (cond (blocked (t .rows) m x) Answers.saysWait Answers.saysGranted)) (b .turn)
 
   -- the ask itself moves nobody in or out of the way
   decided : blocked (t .rows) (row .turn .0) x ≡ blocked (asking .rows) n x

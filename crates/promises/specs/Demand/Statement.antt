@@ -19,7 +19,7 @@ use Rattle.arbiter.specs.Meaning.{answer, next, report, run, startAnswer, start
 use Rattle.arbiter.specs.declared.table.Report.{Report}
 use Rattle.arbiter.specs.declared.table.Table.{Table}
 use Rattle.promises.specs.History.Words.{heeded, leavings, lists, names, taken}
-use Rattle.promises.specs.Sound.Words.{rowIn}
+use Rattle.arbiter.specs.Sound.{rowIn}
 
 -- job j holds the set h and asks for the set a
 abbrev pub Has : Table → ℕ → ℕ → ℕ → Type 0
@@ -75,7 +75,7 @@ module _ (T R begin limit : ℕ) (past : List Event) (j : ℕ) (tick : Tick) (s 
 
   -- all that is supposed: the start and the opening are accepted, and the request is still live
   pub record Supposed : Type 0 where
-    pub started : startAnswer T R limit ≡ fine Answers.done
+    pub started : startAnswer T R limit ≡ fine Answers.saysDone
     pub accepted : taken before (Open j tick s) ≡ true
     pub lives : rowIn now j .turn .0 ≡ n
 
@@ -83,7 +83,7 @@ module _ (T R begin limit : ℕ) (past : List Event) (j : ℕ) (tick : Tick) (s 
   pub record Demand3 : Type 0 where
     -- the token: at once if at most T-1 stand before it, else with the completion that leaves so few;
     -- that event lists the job as woken, once, and none before it does
-    pub opening-says : answer jobs before (Open j tick s) ≡ fine (cond (leb p (T - 1)) Answers.token Answers.wait)
+    pub opening-says : answer jobs before (Open j tick s) ≡ fine (cond (leb p (T - 1)) Answers.saysToken Answers.saysWait)
     pub token-comes : token T (now .rows) n ≡ leb (p - (T - 1)) (leavings live opened later)
     pub token-told :
         (e : Event) → token T (now .rows) n ≡ false →
@@ -92,7 +92,7 @@ module _ (T R begin limit : ℕ) (past : List Event) (j : ℕ) (tick : Tick) (s 
     pub ask-has-token : (at : Tick) (x : ℕ) → taken now (Ask j at x) ≡ true → token T (now .rows) n ≡ true
     pub ask-says :
         (at : Tick) (x : ℕ) → taken now (Ask j at x) ≡ true →
-        answer jobs now (Ask j at x) ≡ fine (cond (blocked (now .rows) n x) Answers.wait Answers.granted)
+        answer jobs now (Ask j at x) ≡ fine (cond (blocked (now .rows) n x) Answers.saysWait Answers.saysGranted)
     pub ask-granted :
         (at : Tick) (x : ℕ) → taken now (Ask j at x) ≡ true →
         Granted j n x (rowIn now j .held) (next jobs now (Ask j at x))

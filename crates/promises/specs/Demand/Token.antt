@@ -31,7 +31,7 @@ use Rattle.promises.specs.History.Row.{alive, bears-after, lives, sets-a
 use Rattle.promises.specs.History.Woken.{listed-after, unnamed}
 use Rattle.promises.specs.Kept.Words.{Accepts, Acts}
 use Rattle.promises.specs.Kept.Accepted.{next-accepted, open-below, open-idle, was-sound}
-use Rattle.promises.specs.Sound.Words.{rowIn}
+use Rattle.arbiter.specs.Sound.{rowIn}
 use Rattle.promises.specs.Sound.Facts.{turns-given}
 
 -- ---- The opening

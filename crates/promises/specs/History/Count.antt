@@ -26,7 +26,7 @@ use Rattle.promises.specs.History.Words.{leaving, leavings, taken, Along
 use Rattle.promises.specs.History.Events.{next-either}
 use Rattle.promises.specs.Kept.Words.{Accepts}
 use Rattle.promises.specs.Kept.Accepted.{ask-acts, complete-acts, open-below, open-idle, release-acts}
-use Rattle.promises.specs.Sound.Words.{rowIn}
+use Rattle.arbiter.specs.Sound.{rowIn}
 
 -- ---- What every table of a history keeps
 

@@ -10,7 +10,7 @@ use Rattle.event.specs.declared.events.Event.the-variants.{Beat, Open, Ask, Rel
 use Rattle.laws.specs.Cases.{first, keepUnless, leaves, outcome, unless}
 use Rattle.laws.specs.Front.{over}
 use Rattle.event.specs.Limits.{jobs}
-use Rattle.arbiter.specs.Meaning.{accepted, answer, listed, next, told, wakes}
+use Rattle.arbiter.specs.Meaning.{accepted, answer, listed, next, said, wakes}
 use Rattle.arbiter.specs.Refusals.{cases}
 use Rattle.arbiter.specs.declared.table.Table.{Table}
 use Rattle.promises.specs.Kept.Words.{Accepts}
@@ -25,7 +25,7 @@ module _ (t : Table) (e : Event) where
   unfolding answer outcome next leaves
   next-either P takes refuses = go (first (cases jobs t e)) takes
     where
-      go : (k : ℕ) → (k ≡ 0 → P true (accepted t e)) → P (isFine (unless k (told t e))) (keepUnless k t (accepted t e))
+      go : (k : ℕ) → (k ≡ 0 → P true (accepted t e)) → P (isFine (unless k (said t e))) (keepUnless k t (accepted t e))
       go zero takes = takes refl
       go (suc k) takes = refuses
 
@@ -34,7 +34,7 @@ module _ (t : Table) (e : Event) where
   unfolding answer outcome
   accepts = go (first (cases jobs t e))
     where
-      go : (k : ℕ) → isFine (unless k (told t e)) ≡ true → k ≡ 0
+      go : (k : ℕ) → isFine (unless k (said t e)) ≡ true → k ≡ 0
       go zero h = refl
       go (suc k) h = absurd (false≢true h)
 
@@ -62,6 +62,6 @@ unfolding answer outcome leaves listed over
 listed-front t e out h =
     ap (λ (k : ℕ). keepUnless k out (over (wakes t e) out)) (first-long (length out) t e h) ∙ go (first (cases jobs t e))
   where
-    go : (k : ℕ) → keepUnless k out (over (wakes t e) out) ≡ over (cond (isFine (unless k (told t e))) (wakes t e) []) out
+    go : (k : ℕ) → keepUnless k out (over (wakes t e) out) ≡ over (cond (isFine (unless k (said t e))) (wakes t e) []) out
     go zero = refl
     go (suc k) = refl

@@ -24,7 +24,8 @@ use Rattle.promises.specs.Kept.Accepted.{was-sound}
 use Rattle.promises.specs.Kept.Decisions.{decided-sets, sweeps}
 use Rattle.promises.specs.Kept.Rows.{waiting-alike}
 use Rattle.promises.specs.Kept.Woken.{fate}
-use Rattle.promises.specs.Sound.Words.{LiveRow, rowIn}
+use Rattle.arbiter.specs.Sound.{rowIn}
+use Rattle.promises.specs.Sound.Words.{LiveRow}
 
 -- what waiting is made of
 pub waiting-is :

@@ -21,7 +21,7 @@ use Rattle.promises.specs.History.Words.{Along}
 use Rattle.promises.specs.History.Count.{along-next}
 use Rattle.promises.specs.Kept.Words.{Accepts}
 use Rattle.promises.specs.Kept.Accepted.{ask-acts, complete-acts, open-below, release-acts}
-use Rattle.promises.specs.Sound.Words.{rowIn}
+use Rattle.arbiter.specs.Sound.{rowIn}
 
 module _ {T n : ℕ} (t : Table) (along : Along T n t) (some : 0 < n) (j : ℕ) where
   -- if row r of job k bears turn n, it has the turn and the declared set that the job's row has in t

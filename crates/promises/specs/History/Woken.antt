@@ -19,7 +19,7 @@ use Rattle.promises.specs.History.Row.{bears-after, lives}
 use Rattle.promises.specs.Kept.Words.{Accepts}
 use Rattle.promises.specs.Kept.Accepted.{actor-rests, ask-acts, complete-acts, idle-rests, next-accepted, open-idle, release-acts}
 use Rattle.promises.specs.Kept.Woken.{wakes-woken}
-use Rattle.promises.specs.Sound.Words.{rowIn}
+use Rattle.arbiter.specs.Sound.{rowIn}
 
 -- ---- While a job waits, its own events are refused
 

@@ -15,12 +15,12 @@ use Rattle.laws.specs.CaseLaws.{clear}
 use Rattle.event.specs.Limits.{jobs}
 use Rattle.rows.specs.Order.{live, token, waiting}
 use Rattle.rows.specs.Turns.{waiting-reads}
-use Rattle.arbiter.specs.Meaning.{accepted, answer, next, told}
+use Rattle.arbiter.specs.Meaning.{accepted, answer, next, said}
 use Rattle.arbiter.specs.Refusals.{cases}
 use Rattle.arbiter.specs.RefusalLaws.{cases-ascend}
-use Rattle.arbiter.specs.Sound.{sound}
+use Rattle.arbiter.specs.Sound.{sound, rowIn}
 use Rattle.arbiter.specs.declared.table.Table.{Table}
-use Rattle.promises.specs.Sound.Words.{SoundTable, rowIn}
+use Rattle.promises.specs.Sound.Words.{SoundTable}
 use Rattle.promises.specs.Sound.Tests.{table-sound}
 use Rattle.promises.specs.Kept.Words.{Accepts, Acts}
 
@@ -62,7 +62,7 @@ next-tokens n t e ok = rw (next-accepted n t e ok) (go e)
     go (Release j tick s) = refl
     go (Complete j tick) = refl
 
-pub answer-accepted : (n : ℕ) (t : Table) (e : Event) → Accepts n t e → answer n t e ≡ fine (told t e)
+pub answer-accepted : (n : ℕ) (t : Table) (e : Event) → Accepts n t e → answer n t e ≡ fine (said t e)
 unfolding answer outcome
 answer-accepted n t e ok = rw ok
 

@@ -29,7 +29,8 @@ use Rattle.promises.specs.Kept.Words.{Accepts, Acts, Asked, Decided, Swe
 use Rattle.promises.specs.Kept.Accepted.{ask-acts, complete-acts, open-idle, passed, release-acts, was-sound}
 use Rattle.promises.specs.Kept.Decisions.{asks, sweeps}
 use Rattle.promises.specs.Kept.Rows.{alike-clearer, alike-kept, alike-opened, alike-self, alike-settled, carried, decided, decided-alike}
-use Rattle.promises.specs.Sound.Words.{LiveRow, SoundRow, SoundTable, rowIn}
+use Rattle.arbiter.specs.Sound.{rowIn}
+use Rattle.promises.specs.Sound.Words.{LiveRow, SoundRow, SoundTable}
 use Rattle.promises.specs.Sound.Tests.{idle-sound}
 
 -- ---- What the five events leave

@@ -19,14 +19,15 @@ use Rattle.rows.specs.Order.{blocked, idle, inWay, token}
 use Rattle.rows.specs.Turns.{live-within}
 use Rattle.rows.specs.declared.row.Row.{Row}
 use Rattle.arbiter.specs.Answers as Answers
-use Rattle.arbiter.specs.Meaning.{accepted, answer, askedRow, next, openedRow, releasedRow, timeAt, told}
+use Rattle.arbiter.specs.Meaning.{accepted, answer, askedRow, next, openedRow, releasedRow, timeAt, said}
 use Rattle.arbiter.specs.Refusals.{cases}
 use Rattle.arbiter.specs.declared.table.Table.{Table}
 use Rattle.promises.specs.Kept.Words.{Accepts, Asked, Decided, grants, waits}
 use Rattle.promises.specs.Kept.Accepted.{answer-accepted, ask-acts, next-accepted, open-below, passed, release-acts, was-sound}
 use Rattle.promises.specs.Kept.Decisions.{asks}
 use Rattle.promises.specs.Kept.Events.{accepted-kept}
-use Rattle.promises.specs.Sound.Words.{SoundTable, rowIn}
+use Rattle.arbiter.specs.Sound.{rowIn}
+use Rattle.promises.specs.Sound.Words.{SoundTable}
 
 pub next-kept : (n : ℕ) (t : Table) (e : Event) → Accepts n t e → SoundTable (next n t e)
 next-kept n t e ok = rw (next-accepted n t e ok) (accepted-kept n t e ok)
@@ -49,7 +50,7 @@ module _ (n : ℕ) (t : Table) (j : ℕ) (tick : Tick) (s : ℕ) (ok : Accepts n
   -- a resource that an older live request has declared is not handed out, free or not: the ask waits, and nothing more is held
   pub older-goes-first :
       InTheWay (t .rows) (rowIn t j .turn .0) s →
-      (answer n t (Ask j tick s) ≡ fine Answers.wait) × (rowIn (next n t (Ask j tick s)) j .held ≡ rowIn t j .held)
+      (answer n t (Ask j tick s) ≡ fine Answers.saysWait) × (rowIn (next n t (Ask j tick s)) j .held ≡ rowIn t j .held)
   older-goes-first w =
       let way = in-way-at (t .rows) (rowIn t j .turn .0) s w in
       (rw (answer-accepted n t (Ask j tick s) ok, lt-ltb 0 (inWay (t .rows) (rowIn t j .turn .0) s) way) refl, held ask-whole)
@@ -62,31 +63,31 @@ module _ (n : ℕ) (t : Table) (j : ℕ) (tick : Tick) (s : ℕ) (ok : Accepts n
 
 -- an open that says "wait" waits from the true time after its own tick
 pub open-waits-from-now :
-    (n : ℕ) (t : Table) (j : ℕ) (tick : Tick) (s : ℕ) → length (t .rows) ≡ jobs → answer n t (Open j tick s) ≡ fine Answers.wait →
+    (n : ℕ) (t : Table) (j : ℕ) (tick : Tick) (s : ℕ) → length (t .rows) ≡ jobs → answer n t (Open j tick s) ≡ fine Answers.saysWait →
     rowIn (next n t (Open j tick s)) j .since ≡ next n t (Open j tick s) .time
 unfolding answer
 open-waits-from-now n t j tick s full e =
-    let said = acceptance-tells {B = ℕ} (cases n t (Open j tick s)) (told t (Open j tick s)) Answers.wait e in
+    let said = acceptance-tells {B = ℕ} (cases n t (Open j tick s)) (said t (Open j tick s)) Answers.saysWait e in
     let within = open-below n t j tick s (said .0) in
     rw (next-accepted n t (Open j tick s) (said .0), getD-set-same (t .rows) j (openedRow t (timeAt t (tick .0)) s) idle (omega arith))
     (rw (go (token (t .tokens) (t .rows) (t .last .0 + 1)) (said .1)))
   where
-    go : (b : Bool) → cond b Answers.token Answers.wait ≡ Answers.wait → b ≡ false
+    go : (b : Bool) → cond b Answers.saysToken Answers.saysWait ≡ Answers.saysWait → b ≡ false
     go true f = let z : _≡_ {A = ℕ} 0 1 = cc in absurd (omega arith)
     go false f = refl
 
 -- so does an ask
 pub ask-waits-from-now :
-    (n : ℕ) (t : Table) (j : ℕ) (tick : Tick) (s : ℕ) → answer n t (Ask j tick s) ≡ fine Answers.wait →
+    (n : ℕ) (t : Table) (j : ℕ) (tick : Tick) (s : ℕ) → answer n t (Ask j tick s) ≡ fine Answers.saysWait →
     rowIn (next n t (Ask j tick s)) j .since ≡ next n t (Ask j tick s) .time
 unfolding answer
 ask-waits-from-now n t j tick s e =
-    let said = acceptance-tells {B = ℕ} (cases n t (Ask j tick s)) (told t (Ask j tick s)) Answers.wait e in
+    let said = acceptance-tells {B = ℕ} (cases n t (Ask j tick s)) (said t (Ask j tick s)) Answers.saysWait e in
     rw (next-accepted n t (Ask j tick s) (said .0))
     (asked n t j tick s (said .0) .waits-now (go (blocked (t .rows) (rowIn t j .turn .0) s) refl (said .1)))
   where
     go :
-        (b : Bool) → blocked (t .rows) (rowIn t j .turn .0) s ≡ b → cond b Answers.wait Answers.granted ≡ Answers.wait →
+        (b : Bool) → blocked (t .rows) (rowIn t j .turn .0) s ≡ b → cond b Answers.saysWait Answers.saysGranted ≡ Answers.saysWait →
         0 < inWay (t .rows) (rowIn t j .turn .0) s
     go true f e = ltb-true 0 (inWay (t .rows) (rowIn t j .turn .0) s) f
     go false f e = let z : _≡_ {A = ℕ} 0 1 = cc in absurd (omega arith)

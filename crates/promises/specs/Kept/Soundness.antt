@@ -17,7 +17,8 @@ use Rattle.arbiter.specs.Answers as Answers
 use Rattle.arbiter.specs.Meaning.{accepted, answer, freshTable, next, noTable, overdue, report, run, startAnswer, startTable}
 use Rattle.arbiter.specs.Refusals.{cases, overdueCases, reportCases, startCases}
 use Rattle.arbiter.specs.RefusalLaws.{cases-ascend, overdue-ascends, report-ascends, start-ascends}
-use Rattle.arbiter.specs.Sound.{holds, ranges, sound}
+use Rattle.laws.specs.Lists.{holds}
+use Rattle.arbiter.specs.Sound.{ranges, sound}
 use Rattle.arbiter.specs.declared.table.Table.{Table}
 use Rattle.promises.specs.Kept.Words.{Accepts, NeverUnsound}
 use Rattle.promises.specs.Kept.Accepted.{case-unsound, leaves-new}
@@ -68,10 +69,10 @@ fresh-sound T R tick limit e h =
     })
 
 -- an accepted start has numbers in range, and gives a fresh table
-module _ (T R limit : ℕ) (started : startAnswer T R limit ≡ fine Answers.done) where
+module _ (T R limit : ℕ) (started : startAnswer T R limit ≡ fine Answers.saysDone) where
   unrefused : first (startCases T R limit) ≡ 0
   unfolding startAnswer
-  unrefused = acceptance-tells {B = ℕ} (startCases T R limit) Answers.done Answers.done started .0
+  unrefused = acceptance-tells {B = ℕ} (startCases T R limit) Answers.saysDone Answers.saysDone started .0
 
   pub start-ranges : holds (ranges T R limit) ≡ true
   unfolding case
@@ -83,12 +84,12 @@ module _ (T R limit : ℕ) (started : startAnswer T R limit ≡ fine Answers.don
 
 -- so a sound one
 pub start-sound :
-    (T R tick limit : ℕ) → tick < 2 ^ 32 → startAnswer T R limit ≡ fine Answers.done → sound (startTable T R tick limit) ≡ true
+    (T R tick limit : ℕ) → tick < 2 ^ 32 → startAnswer T R limit ≡ fine Answers.saysDone → sound (startTable T R tick limit) ≡ true
 start-sound T R tick limit h e = rw (start-fresh T R limit e tick) (fresh-sound T R tick limit (start-ranges T R limit e) h)
 
 -- every table that events lead to from an accepted start is sound
 pub run-sound :
-    (T R tick limit : ℕ) → tick < 2 ^ 32 → startAnswer T R limit ≡ fine Answers.done → (es : List Event) →
+    (T R tick limit : ℕ) → tick < 2 ^ 32 → startAnswer T R limit ≡ fine Answers.saysDone → (es : List Event) →
     sound (run (startTable T R tick limit) es) ≡ true
 run-sound T R tick limit h ok es = events-sound (startTable T R tick limit) es (start-sound T R tick limit h ok)
 
@@ -112,6 +113,6 @@ never-unsound t p = record {
 
 -- so none that events lead to from an accepted start is
 pub run-never-unsound :
-    (T R tick limit : ℕ) → tick < 2 ^ 32 → startAnswer T R limit ≡ fine Answers.done → (es : List Event) →
+    (T R tick limit : ℕ) → tick < 2 ^ 32 → startAnswer T R limit ≡ fine Answers.saysDone → (es : List Event) →
     NeverUnsound (run (startTable T R tick limit) es)
 run-never-unsound T R tick limit h ok es = never-unsound (run (startTable T R tick limit) es) (run-sound T R tick limit h ok es)

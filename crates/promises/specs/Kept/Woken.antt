@@ -28,7 +28,8 @@ use Rattle.promises.specs.Kept.Accepted.{actor-rests, ask-acts, complete
 use Rattle.promises.specs.Kept.Decisions.{asks, sweeps}
 use Rattle.promises.specs.Kept.Named.{next-kept}
 use Rattle.promises.specs.Kept.Rows.{alike-kept, alike-opened, alike-self, alike-settled, decided-alike, waiting-alike}
-use Rattle.promises.specs.Sound.Words.{SoundTable, rowIn}
+use Rattle.arbiter.specs.Sound.{rowIn}
+use Rattle.promises.specs.Sound.Words.{SoundTable}
 use Rattle.promises.specs.Sound.Facts.{not-idle, turns-given}
 
 -- ---- What becomes of a row

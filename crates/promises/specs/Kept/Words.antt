@@ -7,7 +7,7 @@ use Rattle.event.specs.Limits.{jobs}
 use Rattle.rows.specs.Order.{ahead, inWay, waiting}
 use Rattle.arbiter.specs.Refusals.{cases}
 use Rattle.arbiter.specs.declared.table.Table.{Table}
-use Rattle.promises.specs.Sound.Words.{rowIn}
+use Rattle.arbiter.specs.Sound.{rowIn}
 use mathlib.Core.Bool.{true, false, Bool}
 use mathlib.Core.List.{List}
 use Rattle.laws.specs.Sets.{union}

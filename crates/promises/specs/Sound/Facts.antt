@@ -15,10 +15,10 @@ use Rattle.rows.specs.Line.{rowOf}
 use Rattle.rows.specs.Order.{ahead, claims, earlier, idle, inWay, live, token, waiting}
 use Rattle.rows.specs.Turns.{distinct-test, waiting-reads}
 use Rattle.rows.specs.declared.row.Row.{Row}
-use Rattle.arbiter.specs.Sound.{sound, soundRow}
+use Rattle.arbiter.specs.Sound.{sound, soundRow, rowIn}
 use Rattle.arbiter.specs.declared.table.Table.{Table}
 use Rattle.promises.specs.Kept.Words.{Alike}
-use Rattle.promises.specs.Sound.Words.{SoundTable, rowIn, SameNumbers, seen, holdsToken}
+use Rattle.promises.specs.Sound.Words.{SoundTable, SameNumbers, seen, holdsToken}
 use Rattle.promises.specs.Sound.Tests.{table-sound}
 use Rattle.promises.specs.Sound.Tokens.{tokens-out}
 

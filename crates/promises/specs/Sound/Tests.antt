@@ -10,14 +10,15 @@ use lib.Arith.{le-zero}
 use lib.Dec.{eqb, leb}
 use Rattle.laws.specs.BoolLaws.{and-left, and-right}
 use Rattle.laws.specs.Counts.{all-each, each-all}
-use Rattle.laws.specs.Lists.{all}
+use Rattle.laws.specs.Lists.{all, holds}
 use Rattle.rows.specs.Order.{ahead, blocked, distinct, idle, live, waiting}
 use Rattle.rows.specs.Turns.{distinct-rows, distinct-test, waiting-reads}
 use Rattle.rows.specs.declared.row.Row.{Row}
-use Rattle.arbiter.specs.Readings.{_and_, hold, none, nth}
-use Rattle.arbiter.specs.Sound.{claimConditions, counters, holds, idleRow, ownConditions, ranges, sound, soundRow, within}
+use Rattle.laws.specs.HoldLaws.{_and_, hold, none, nth}
+use Rattle.arbiter.specs.ByStanding.{claimConditions}
+use Rattle.arbiter.specs.Sound.{counters, idleRow, ownConditions, ranges, sound, soundRow, within, rowIn}
 use Rattle.arbiter.specs.declared.table.Table.{Table}
-use Rattle.promises.specs.Sound.Words.{rowIn, LiveRow, SoundRow, InRange, SoundTable}
+use Rattle.promises.specs.Sound.Words.{LiveRow, SoundRow, InRange, SoundTable}
 
 -- ---- The propositions
 

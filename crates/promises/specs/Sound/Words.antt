@@ -11,10 +11,6 @@ use Rattle.arbiter.specs.Sound.{ranges}
 use Rattle.arbiter.specs.declared.table.Table.{Table}
 use mathlib.Core.List.{List}
 
--- the row of a job
-abbrev pub rowIn : Table → ℕ → Row
-rowIn t j = rowOf (t .rows) j
-
 -- ---- The propositions
 
 -- a live row: its turn was given; it declares something, all of it below R; what it holds and asks is declared, and apart;

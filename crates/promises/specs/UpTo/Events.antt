@@ -26,7 +26,8 @@ use Rattle.promises.specs.History.Count.{along-next}
 use Rattle.promises.specs.History.Turn.{back-run}
 use Rattle.promises.specs.Kept.Accepted.{next-accepted}
 use Rattle.promises.specs.Kept.Woken.{wakes-woken}
-use Rattle.promises.specs.Sound.Words.{rowIn, seen}
+use Rattle.arbiter.specs.Sound.{rowIn}
+use Rattle.promises.specs.Sound.Words.{seen}
 use Rattle.promises.specs.UpTo.Statement.{among, ofThem, upTo}
 use Rattle.promises.specs.UpTo.Line.{woken-none, woken-up-to}
 use Rattle.promises.specs.UpTo.Rows.{row-up-to, seen-out}

@@ -16,10 +16,10 @@ use Rattle.rows.specs.Order.{idle, live}
 use Rattle.rows.specs.Sweep.{settled, woken}
 use Rattle.rows.specs.Turns.{earlier-turn}
 use Rattle.rows.specs.declared.row.Row.{Row}
-use Rattle.arbiter.specs.Answers.{woke}
+use Rattle.arbiter.specs.Answers.{saysWoke}
 use Rattle.arbiter.specs.Meaning.{accepted, answer, askedRow, lateAt, lateJob, moved, next, releasedRow, run, timeAt, wakes}
 use Rattle.arbiter.specs.Refusals.{cases, shortList}
-use Rattle.arbiter.specs.Sound.{sound}
+use Rattle.arbiter.specs.Sound.{sound, rowIn}
 use Rattle.arbiter.specs.declared.table.Table.{Table}
 use Rattle.promises.specs.History.Events.{accepts}
 use Rattle.promises.specs.History.Words.{isFine, taken, Along}
@@ -27,7 +27,7 @@ use Rattle.promises.specs.History.Count.{along-next}
 use Rattle.promises.specs.Kept.Soundness.{next-sound}
 use Rattle.promises.specs.Kept.Words.{Accepts}
 use Rattle.promises.specs.Kept.Accepted.{next-accepted, open-idle}
-use Rattle.promises.specs.Sound.Words.{rowIn, seen}
+use Rattle.promises.specs.Sound.Words.{seen}
 use Rattle.promises.specs.UpTo.Statement.{Agree, SameUpTo, ToldAlike, butNumber, ofThem, upTo, TakenAlike}
 use Rattle.promises.specs.UpTo.Events.{listed-woken, others, refused-stays}
 use Rattle.promises.specs.UpTo.Line.{late-up-to}
@@ -51,7 +51,7 @@ module _ {T n : ℕ} {t u : Table} (along-t : Along T n t) (along-u : Along T n 
   answered (Complete j tick) in-t =
       let more = length (wakes u (Complete j tick)) in
       but-number (cases jobs t (Complete j tick)) (length (wakes t (Complete j tick))) more
-      ∙ (λ i. butNumber (outcome (shortList jobs ∷ same-act a j in-t sound-t sound-u (tick .0) i) (woke more)))
+      ∙ (λ i. butNumber (outcome (shortList jobs ∷ same-act a j in-t sound-t sound-u (tick .0) i) (saysWoke more)))
 
   taken-alike : (e : Event) → ofThem n t e ≡ true → taken t e ≡ taken u e
   taken-alike e in-t =

@@ -16,13 +16,13 @@ use Rattle.event.specs.Limits.{jobs}
 use Rattle.rows.specs.Order.{ahead, blocked, earlier, inWay, live}
 use Rattle.rows.specs.Turns.{earlier-turn}
 use Rattle.rows.specs.declared.row.Row.{Row}
-use Rattle.arbiter.specs.Answers.{Said, done, granted, token, wait, woke}
-use Rattle.arbiter.specs.Meaning.{answer, report, timeAt, told}
-use Rattle.arbiter.specs.Refusals.{actCases, askCases, releaseCases, setCases, turnCases}
-use Rattle.arbiter.specs.Sound.{sound}
+use Rattle.arbiter.specs.Answers.{Said, saysDone, saysGranted, saysToken, saysWait, saysWoke}
+use Rattle.arbiter.specs.Meaning.{answer, report, timeAt, said}
+use Rattle.arbiter.specs.Verdicts.{actCases, askCases, releaseCases, setCases, turnCases}
+use Rattle.arbiter.specs.Sound.{sound, rowIn}
 use Rattle.arbiter.specs.declared.table.Table.{Table}
 use Rattle.promises.specs.History.Words.{isFine}
-use Rattle.promises.specs.Sound.Words.{rowIn, seen}
+use Rattle.promises.specs.Sound.Words.{seen}
 use Rattle.promises.specs.UpTo.Statement.{Agree, among, butNumber, ofThem}
 use Rattle.promises.specs.UpTo.Rows.{alike-up-to, earlier-seen, row-up-to, seen-in}
 
@@ -92,7 +92,7 @@ module _ {n : ℕ} {t u : Table} (a : Agree n t u) where
       same-ask tick s =
           λ i.
           outcome (same-act (tick .0) i ++ (setCases (a .resources i) s ++ askCases (same-row i) s))
-          (cond (same-blocked s i) wait granted)
+          (cond (same-blocked s i) saysWait saysGranted)
 
       -- what is reported of one of them
       pub same-report : report t j ≡ report u j
@@ -108,7 +108,7 @@ module _ {n : ℕ} {t u : Table} (a : Agree n t u) where
           outcome (when 3 (not (s i)) ∷ when 4 (leb jobs j) ∷ when 8 (not (live (r i))) ∷ [])
           (record {
             turn = r i .turn;
-            token = same-has i;
+            saysToken = same-has i;
             waiting = live (r i) && (not (same-has i) || ltb 0 (r i .asked));
             ahead = before i;
             «in_way» = way i;
@@ -117,24 +117,24 @@ module _ {n : ℕ} {t u : Table} (a : Agree n t u) where
       pub same-release : (tick : Tick) (s : ℕ) → answer jobs t (Release j tick s) ≡ answer jobs u (Release j tick s)
       unfolding answer
       same-release tick s =
-          λ i. outcome (same-act (tick .0) i ++ (setCases (a .resources i) s ++ releaseCases (same-row i) s)) done
+          λ i. outcome (same-act (tick .0) i ++ (setCases (a .resources i) s ++ releaseCases (same-row i) s)) saysDone
 
 -- an answer to a completion tells the number, and a refusal
-pub but-number : (cs : List Case) (k k′ : ℕ) → butNumber (outcome cs (woke k)) ≡ butNumber (outcome cs (woke k′))
+pub but-number : (cs : List Case) (k k′ : ℕ) → butNumber (outcome cs (saysWoke k)) ≡ butNumber (outcome cs (saysWoke k′))
 unfolding outcome
 but-number cs k k′ = go (first cs)
   where
-    go : (c : ℕ) → butNumber (unless c (woke k)) ≡ butNumber (unless c (woke k′))
+    go : (c : ℕ) → butNumber (unless c (saysWoke k)) ≡ butNumber (unless c (saysWoke k′))
     go zero = refl
     go (suc c) = refl
 
 pub fine-but-number : (o : Outcome Said) → isFine (butNumber o) ≡ isFine o
 fine-but-number (refused k) = refl
-fine-but-number (fine token) = refl
-fine-but-number (fine granted) = refl
-fine-but-number (fine wait) = refl
-fine-but-number (fine done) = refl
-fine-but-number (fine (woke k)) = refl
+fine-but-number (fine saysToken) = refl
+fine-but-number (fine saysGranted) = refl
+fine-but-number (fine saysWait) = refl
+fine-but-number (fine saysDone) = refl
+fine-but-number (fine (saysWoke k)) = refl
 
 -- how an opening for a job that has a live request is refused: no later than by 7
 abbrev pub refusal : Bool → ℕ → ℕ → ℕ → ℕ
@@ -153,7 +153,7 @@ open-refused t j tick s lives =
   where
     go :
         (b3 b4 b5 b6 b7 : Bool) → b7 ≡ true →
-        unless (cond b3 3 (cond b4 4 (cond b5 5 (cond b6 6 (cond b7 7 (first (setCases (t .resources) s ++ turnCases (t .last .0)))))))) (told t (Open j tick s))
+        unless (cond b3 3 (cond b4 4 (cond b5 5 (cond b6 6 (cond b7 7 (first (setCases (t .resources) s ++ turnCases (t .last .0)))))))) (said t (Open j tick s))
         ≡ refused (cond b3 3 (cond b4 4 (cond b5 5 (cond b6 6 7))))
     go true b4 b5 b6 b7 e = refl
     go false true b5 b6 b7 e = refl

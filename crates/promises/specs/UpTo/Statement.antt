@@ -12,11 +12,12 @@ use Rattle.rows.specs.Line.{keep}
 use Rattle.event.specs.Limits.{jobs}
 use Rattle.rows.specs.Order.{earlier}
 use Rattle.rows.specs.declared.row.Row.{Row}
-use Rattle.arbiter.specs.Answers.{Said, done, granted, token, wait, woke}
+use Rattle.arbiter.specs.Answers.{Said, saysDone, saysGranted, saysToken, saysWait, saysWoke}
 use Rattle.arbiter.specs.Meaning.{answer, late, next, report}
 use Rattle.arbiter.specs.declared.table.Table.{Table}
 use Rattle.promises.specs.History.Words.{lists, taken}
-use Rattle.promises.specs.Sound.Words.{rowIn, seen}
+use Rattle.arbiter.specs.Sound.{rowIn}
+use Rattle.promises.specs.Sound.Words.{seen}
 use Rattle.promises.specs.UpTo.Events.{others}
 use Rattle.promises.specs.UpTo.Holds.{answered, taken-alike}
 
@@ -47,11 +48,11 @@ ofThem n t (Complete j tick) = among n t j
 -- an answer but for the number that a completion woke, in which later requests count
 abbrev pub butNumber : Outcome Said → Outcome Said
 butNumber (refused k) = refused k
-butNumber (fine token) = fine token
-butNumber (fine granted) = fine granted
-butNumber (fine wait) = fine wait
-butNumber (fine done) = fine done
-butNumber (fine (woke k)) = fine (woke 0)
+butNumber (fine saysToken) = fine saysToken
+butNumber (fine saysGranted) = fine saysGranted
+butNumber (fine saysWait) = fine saysWait
+butNumber (fine saysDone) = fine saysDone
+butNumber (fine (saysWoke k)) = fine (saysWoke 0)
 
 -- an event on two such tables
 pub record SameUpTo (n : ℕ) (t u : Table) (e : Event) : Type 0 where

@@ -12,7 +12,8 @@ use Rattle.event.specs.Limits.{jobs}
 use Rattle.rows.specs.Sweep.{settled, woke, woken}
 use Rattle.rows.specs.declared.row.Row.{Row}
 use Rattle.arbiter.specs.Answers as Answers
-use Rattle.arbiter.specs.Meaning.{completedRows, moved}
+use Rattle.arbiter.specs.Effects.{completedRows}
+use Rattle.arbiter.specs.Meaning.{moved}
 use Rattle.arbiter.proofs.effect.completed.Statement.{statement}
 use Rattle.arbiter.proofs.effect.completed.Tie as tie
 
@@ -73,7 +74,7 @@ returns c =
     (λ j h. marks .ensures j (omega arith)) (c .before .before .before .write-marked .ensures)) in
     record {
       does = record {
-        says = ap (λ (n : ℕ). fine (Answers.woke n)) (lists .told);
+        says = ap (λ (n : ℕ). fine (Answers.saysWoke n)) (lists .told);
         hands = c .moved .ensures
             ∙ ap (moved t (start .args .time) (t .last .0)) same;
       };

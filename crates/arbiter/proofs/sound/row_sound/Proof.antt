@@ -5,7 +5,9 @@ use mathlib.Core.Path.{sym, ap, ap₂, _∙_}
 use borrow.Author.Tests.{not-true, not-false}
 use Rattle.laws.specs.ListLaws.{all-append}
 use Rattle.laws.specs.Sets.{meets}
-use Rattle.arbiter.specs.Sound.{claimConditions, holds, idleRow, ownConditions}
+use Rattle.arbiter.specs.ByStanding.{ownBy, placeBy}
+use Rattle.laws.specs.Lists.{holds}
+use Rattle.arbiter.specs.Sound.{idleConditions}
 use borrow.Author.Needs.{needs}
 use Rattle.arbiter.proofs.sound.row_sound.Statement.{statement}
 use Rattle.arbiter.proofs.sound.row_sound.Tie as tie
@@ -22,8 +24,8 @@ returns c = rw (sym (c .before .before .live .ensures) ∙ not-true _ (c .before
 own-sound-requires : tie.Need-own-sound-requires
 own-sound-requires c κs = search needs
 
-claim-sound-requires : tie.Need-claim-sound-requires
-claim-sound-requires c κs = search needs
+place-sound-requires : tie.Need-place-sound-requires
+place-sound-requires c κs = search needs
 
 both-requires : tie.Need-both-requires
 both-requires c κs = search needs
@@ -31,12 +33,12 @@ both-requires c κs = search needs
 returns-2 : tie.Need-returns-2
 returns-2 c =
     let a = c .before .before .before .before .before .args in
-    let own = ownConditions (a .b .resources) (a .b .last .0) (a .r) in
-    let claim = claimConditions (a .b .tokens) (a .b .time) (a .r) (a .s .ahead) (meets (a .s .claims)) in
+    let own = ownBy (a .b .resources) (a .b .last .0) (a .r) in
+    let claim = placeBy (a .b .tokens) (a .b .time) (a .r) (a .s .ahead) (meets (a .s .claims)) in
     c .both .ensures
-    ∙ ap₂ (λ (x y : Bool). x && y) (c .before .before .own-sound .ensures) (c .before .claim-sound .ensures)
+    ∙ ap₂ (λ (x y : Bool). x && y) (c .before .before .own-sound .ensures) (c .before .place-sound .ensures)
     ∙ sym (all-append (λ b. b) own claim)
-    ∙ ap (λ (x : Bool). holds (cond x (own ++ claim) (idleRow (a .r))))
+    ∙ ap (λ (x : Bool). holds (cond x (own ++ claim) (idleConditions (a .r))))
     (sym (sym (c .before .before .before .before .live .ensures) ∙ not-false _ (c .before .before .before .if1 .left)))
 
 pub row-sound-spec : {M : Type 1} → statement M
@@ -47,6 +49,6 @@ row-sound-spec =
     idle-sound-requires
     returns
     own-sound-requires
-    claim-sound-requires
+    place-sound-requires
     both-requires
     returns-2)

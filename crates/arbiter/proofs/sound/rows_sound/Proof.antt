@@ -7,7 +7,7 @@ use mathlib.Core.Path.{_≡_, refl, sym, ap₂, fun-ext, _∙_}
 use borrow.Author.Tests.{not-true, not-false}
 use native.Mathlib.Omega.{arith}
 use lib.ListN.{drop, drop-of-length-le, getD, length}
-use Rattle.laws.specs.Lists.{all}
+use Rattle.laws.specs.Lists.{all, holds}
 use Rattle.laws.specs.ListLaws.{all-drop}
 use Rattle.laws.specs.Sets.{meets}
 use Rattle.event.specs.Limits.{jobs}
@@ -15,7 +15,8 @@ use Rattle.rows.specs.Order.{ahead, blocked, idle}
 use Rattle.rows.specs.Stand.{Stands}
 use Rattle.rows.specs.declared.row.Row.{Row}
 use Rattle.rows.specs.declared.stand.Standing.{Standing}
-use Rattle.arbiter.specs.Sound.{holds, rowConditions, soundRow}
+use Rattle.arbiter.specs.Sound.{soundRow}
+use Rattle.arbiter.specs.ByStanding.{rowBy}
 use Rattle.arbiter.specs.declared.sound.Bounds.{Bounds}
 use borrow.Author.Needs.{needs}
 use Rattle.arbiter.proofs.sound.rows_sound.Statement.{statement}
@@ -25,14 +26,14 @@ use Rattle.arbiter.proofs.sound.rows_sound.Tie as tie
 abbrev soundIn : List Row → Bounds → Row → Bool
 soundIn rows b r =
     holds
-    (rowConditions (b .tokens) (b .resources) (b .time) (b .last .0) r (ahead rows (r .turn .0)) (blocked rows (r .turn .0)))
+    (rowBy (b .tokens) (b .resources) (b .time) (b .last .0) r (ahead rows (r .turn .0)) (blocked rows (r .turn .0)))
 
 -- what is known of a row's turn serves in the place of the rows
 known-serves :
     (rows : List Row) (b : Bounds) (r : Row) (s : Standing) → Stands rows (r .turn .0) s →
-    holds (rowConditions (b .tokens) (b .resources) (b .time) (b .last .0) r (s .ahead) (meets (s .claims))) ≡ soundIn rows b r
+    holds (rowBy (b .tokens) (b .resources) (b .time) (b .last .0) r (s .ahead) (meets (s .claims))) ≡ soundIn rows b r
 known-serves rows b r s k =
-    ap₂ (λ (n : ℕ) (f : ℕ → Bool). holds (rowConditions (b .tokens) (b .resources) (b .time) (b .last .0) r n f)) (k .before)
+    ap₂ (λ (n : ℕ) (f : ℕ → Bool). holds (rowBy (b .tokens) (b .resources) (b .time) (b .last .0) r n f)) (k .before)
     (fun-ext (k .forbids))
 
 abbrev Inv-loop : tie.InvT-loop

@@ -1,9 +1,8 @@
 -- The cases of a job that acts, then those of the set.
 use mathlib.Core.Path.{refl}
-use Rattle.laws.specs.Cases.{ascends}
 use Rattle.laws.specs.CaseLaws.{outcome-back, outcome-front}
 use Rattle.arbiter.proofs.Verdicts.{judged}
-use Rattle.arbiter.specs.Refusals.{actCases, setCases}
+use Rattle.arbiter.specs.Verdicts.{actCases, setCases}
 use borrow.Author.Needs.{needs}
 use Rattle.arbiter.proofs.verdict.act_on_verdict.Statement.{statement}
 use Rattle.arbiter.proofs.verdict.act_on_verdict.Tie as tie
@@ -27,7 +26,6 @@ returns c =
     (judged (c .before .act .given .1) (c .before .before .before .act-verdict .ensures))
 
 returns-2 : tie.Need-returns-2
-unfolding ascends
 returns-2 c =
     let a = c .before .before .before .before .before .args in
     outcome-back (actCases (a .t) (a .job) (a .tick .0)) (setCases (a .t .resources) (a .s)) _ _ _ refl

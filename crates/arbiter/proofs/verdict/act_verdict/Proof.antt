@@ -1,10 +1,9 @@
 -- The cases of the entry, then those of the job that acts.
 use mathlib.Core.Path.{refl}
-use Rattle.laws.specs.Cases.{ascends, case}
+use Rattle.laws.specs.Cases.{case}
 use Rattle.laws.specs.CaseLaws.{outcome-back, outcome-front}
-use Rattle.rows.specs.Line.{rowOf}
 use Rattle.arbiter.proofs.Verdicts.{has-row, judged}
-use Rattle.arbiter.specs.Refusals.{actorCases, entryCases}
+use Rattle.arbiter.specs.Verdicts.{actorCases, entryCases}
 use borrow.Author.Needs.{needs}
 use Rattle.arbiter.proofs.verdict.act_verdict.Statement.{statement}
 use Rattle.arbiter.proofs.verdict.act_verdict.Tie as tie
@@ -19,7 +18,7 @@ enum-known-entry-2 : tie.Need-enum-known-entry-2
 enum-known-entry-2 c = search needs
 
 actor-verdict-requires : tie.Need-actor-verdict-requires
-unfolding ascends case
+unfolding case
 actor-verdict-requires c κs =
     let a = c .before .before .before .before in
     let e = judged (c .before .entry2 .given .1) (c .before .before .before .enter .ensures) in
@@ -28,14 +27,13 @@ actor-verdict-requires c κs =
 returns : tie.Need-returns
 returns c =
     let a = c .before .before .before .before .args in
-    outcome-front _ (entryCases (a .t) (a .job) (a .tick .0)) (actorCases (a .t) (rowOf (a .t .rows) (a .job))) _
+    outcome-front _ (entryCases (a .t) (a .job) (a .tick .0)) (actorCases (a .t) (a .job)) _
     (judged (c .before .entry .given .1) (c .before .before .before .enter .ensures))
 
 returns-2 : tie.Need-returns-2
-unfolding ascends
 returns-2 c =
     let a = c .before .before .before .before .before .args in
-    outcome-back (entryCases (a .t) (a .job) (a .tick .0)) (actorCases (a .t) (rowOf (a .t .rows) (a .job))) _ _ _ refl
+    outcome-back (entryCases (a .t) (a .job) (a .tick .0)) (actorCases (a .t) (a .job)) _ _ _ refl
     (judged (c .before .before .entry2 .given .1) (c .before .before .before .before .enter .ensures))
     (c .actor-verdict .ensures)
 

@@ -1,11 +1,11 @@
 -- The cases that an ask shares with a release, then those of its members.
 use mathlib.Core.Path.{refl}
-use Rattle.laws.specs.Cases.{ascends, case}
+use Rattle.laws.specs.Cases.{case}
 use Rattle.laws.specs.CaseLaws.{outcome-back, outcome-front}
 use Rattle.rows.specs.Line.{rowOf}
 use Rattle.event.specs.Limits.{jobs}
 use Rattle.arbiter.proofs.Verdicts.{has-row, judged}
-use Rattle.arbiter.specs.Refusals.{actOnCases, askCases}
+use Rattle.arbiter.specs.Verdicts.{actOnCases, askCases}
 use Prim.Native.Nat.{_<_}
 use borrow.Author.Needs.{needs}
 use Rattle.arbiter.proofs.verdict.ask_verdict.Statement.{statement}
@@ -24,7 +24,7 @@ mul-row : tie.Need-mul-row
 mul-row c = search needs
 
 element-copy-out-row : tie.Need-element-copy-out-row
-unfolding ascends case
+unfolding case
 element-copy-out-row c =
     let a = c .before .before .before .before .args in
     let e = judged (c .before .act2 .given .1) (c .before .before .before .act-on-verdict .ensures) in
@@ -41,7 +41,6 @@ returns c =
     (judged (c .before .act .given .1) (c .before .before .before .act-on-verdict .ensures))
 
 returns-2 : tie.Need-returns-2
-unfolding ascends
 returns-2 c =
     let a = c .before .before .before .before .before .before .args in
     outcome-back (actOnCases (a .t1) (a .job) (a .tick .0) (a .s)) (askCases (rowOf (a .t1 .rows) (a .job)) (a .s)) _ _ _ refl

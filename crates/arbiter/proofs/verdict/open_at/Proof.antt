@@ -1,9 +1,8 @@
 -- Case 7, then the cases of the set, then that of the turn.
 use mathlib.Core.Path.{refl, sym, _∙_}
-use Rattle.laws.specs.Cases.{ascends}
 use Rattle.laws.specs.CaseLaws.{outcome-back, outcome-front, outcome-is, outcome-past, this}
 use Rattle.arbiter.proofs.Verdicts.{judged}
-use Rattle.arbiter.specs.Refusals.{setCases, turnCases}
+use Rattle.arbiter.specs.Verdicts.{setCases, turnCases}
 use borrow.Author.Needs.{needs}
 use Rattle.arbiter.proofs.verdict.open_at.Statement.{statement}
 use Rattle.arbiter.proofs.verdict.open_at.Tie as tie
@@ -40,7 +39,6 @@ returns-2 c =
     ∙ outcome-past _ _ _ _ (sym (c .before .before .before .before .before .live .ensures) ∙ c .before .before .before .before .if1 .left)
 
 returns-3 : tie.Need-returns-3
-unfolding ascends
 returns-3 c =
     let a = c .before .before .before .before .before .before .before .before .before .args in
     outcome-back (setCases (a .t1 .resources) (a .s)) (turnCases (a .t1 .last .0)) _ _ _ refl

@@ -1,9 +1,9 @@
 -- The cases of the entry, then those of the opening.
 use mathlib.Core.Path.{refl}
-use Rattle.laws.specs.Cases.{ascends, case}
+use Rattle.laws.specs.Cases.{case}
 use Rattle.laws.specs.CaseLaws.{outcome-back, outcome-front}
 use Rattle.arbiter.proofs.Verdicts.{has-row, judged}
-use Rattle.arbiter.specs.Refusals.{entryCases, openCases}
+use Rattle.arbiter.specs.Verdicts.{entryCases, openCases}
 use borrow.Author.Needs.{needs}
 use Rattle.arbiter.proofs.verdict.open_verdict.Statement.{statement}
 use Rattle.arbiter.proofs.verdict.open_verdict.Tie as tie
@@ -18,7 +18,7 @@ enum-known-entry-2 : tie.Need-enum-known-entry-2
 enum-known-entry-2 c = search needs
 
 open-at-requires : tie.Need-open-at-requires
-unfolding ascends case
+unfolding case
 open-at-requires c κs =
     let a = c .before .before .before .before .args in
     let e = judged (c .before .entry2 .given .1) (c .before .before .before .enter .ensures) in
@@ -31,7 +31,6 @@ returns c =
     (judged (c .before .entry .given .1) (c .before .before .before .enter .ensures))
 
 returns-2 : tie.Need-returns-2
-unfolding ascends
 returns-2 c =
     let a = c .before .before .before .before .before .args in
     outcome-back (entryCases (a .t) (a .job) (a .tick .0)) (openCases (a .t) (a .job) (a .s)) _ _ _ refl

@@ -1,11 +1,12 @@
 -- A turn that is neither lower nor higher is equal.
-use Prim.Native.Nat.{ℕ, _-_, _≤_, _^_}
+use Prim.Native.Nat.{ℕ, _≤_}
 use mathlib.Core.Bool.{Bool, true, false, not}
 use mathlib.Core.Path.{_≡_, refl, sym, ap, _∙_}
 use borrow.Author.Tests.{eq-eqb, ltb-false, ltb-true, ne-eqb}
 use native.Mathlib.Omega.{arith}
 use lib.Dec.{eqb, ltb}
 use borrow.Author.Needs.{needs}
+use Rattle.event.specs.Limits.{highest}
 use Rattle.arbiter.proofs.verdict.spent.Statement.{statement}
 use Rattle.arbiter.proofs.verdict.spent.Tie as tie
 
@@ -22,16 +23,16 @@ earlier-requires c κs = search needs
 
 returns : tie.Need-returns
 returns c =
-    let less = ltb-true (c .before .before .args .last .0) (2 ^ 63 - 1) (sym (c .before .earlier .ensures) ∙ c .if1 .taken) in
-    sym (ne-eqb (c .before .before .args .last .0) (2 ^ 63 - 1) (λ q. omega (arith, q, less)))
+    let less = ltb-true (c .before .before .args .last .0) highest (sym (c .before .earlier .ensures) ∙ c .if1 .taken) in
+    sym (ne-eqb (c .before .before .args .last .0) highest (λ q. omega (arith, q, less)))
 
 earlier-requires-2 : tie.Need-earlier-requires-2
 earlier-requires-2 c κs = search needs
 
 returns-2 : tie.Need-returns-2
 returns-2 c =
-    ap not (c .earlier2 .ensures) ∙ not-higher (c .before .before .before .args .last .0) (2 ^ 63 - 1)
-    (ltb-false (c .before .before .before .args .last .0) (2 ^ 63 - 1) (sym (c .before .before .earlier .ensures)
+    ap not (c .earlier2 .ensures) ∙ not-higher (c .before .before .before .args .last .0) highest
+    (ltb-false (c .before .before .before .args .last .0) highest (sym (c .before .before .earlier .ensures)
     ∙ c .before .if1 .left))
 
 pub spent-spec : {M : Type 1} → statement M

@@ -8,7 +8,7 @@ use Rattle.laws.specs.Cases.{Case, leaves, outcome}
 use Rattle.laws.specs.CaseLaws.{leaves-same}
 use Rattle.laws.specs.Front.{over}
 use Rattle.event.specs.Limits.{jobs}
-use Rattle.arbiter.specs.Meaning.{accepted, answer, listed, next, told, wakes}
+use Rattle.arbiter.specs.Meaning.{accepted, answer, listed, next, said, wakes}
 use Rattle.arbiter.specs.Promises.{Answered, AnsweredInto}
 use Rattle.arbiter.specs.Refusals.{cases}
 use Rattle.arbiter.specs.declared.table.Next.{Next}
@@ -25,7 +25,7 @@ module _ (t : Table) (e : Event) (out : List ℕ) (r : Next) where
       record {
         answered =
             record {
-              says = p .says ∙ ap (λ (cs : List Case). outcome cs (told t e)) same;
+              says = p .says ∙ ap (λ (cs : List Case). outcome cs (said t e)) same;
               hands = p .hands ∙ ap (λ (cs : List Case). leaves cs t (accepted t e)) same;
             };
         lists = sym (rw quiet (leaves-same (cases (length out) t e) out));

@@ -2,7 +2,7 @@
 use Prim.Native.Nat.{ℕ}
 use mathlib.Core.Path.{refl}
 use Rattle.event.specs.declared.events.Event.the-variants.{Ask}
-use Rattle.laws.specs.Cases.{ascends, case}
+use Rattle.laws.specs.Cases.{case}
 use Rattle.rows.specs.Line.{rowOf}
 use Rattle.event.specs.Limits.{jobs}
 use Rattle.arbiter.proofs.Answering.{accepted-answers, refused-answers}
@@ -30,7 +30,7 @@ enum-known-verdict-2 : tie.Need-enum-known-verdict-2
 enum-known-verdict-2 c = search needs
 
 asked-requires : tie.Need-asked-requires
-unfolding ascends case
+unfolding case
 asked-requires c κs =
     let a = c .before .before .before .before .before .before .args in
     let v = judged (c .before .verdict2 .given .1) (c .before .before .before .ask-verdict .ensures) in

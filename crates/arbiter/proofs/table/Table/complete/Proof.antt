@@ -3,12 +3,13 @@ use Prim.Native.Nat.{ℕ}
 use mathlib.Core.Path.{refl, _∙_}
 use borrow.Author.Tests.{le-ltb, lt-ltb}
 use Rattle.event.specs.declared.events.Event.the-variants.{Complete}
-use Rattle.laws.specs.Cases.{ascends, case}
+use Rattle.laws.specs.Cases.{case}
 use Rattle.laws.specs.CaseLaws.{outcome-is, outcome-past, this}
 use Rattle.arbiter.proofs.Answering.{accepted-answers-into, refused-answers-into}
 use Rattle.arbiter.proofs.Verdicts.{has-row, judged}
-use Rattle.arbiter.specs.Meaning.{completedRows, moved, timeAt}
-use Rattle.arbiter.specs.Refusals.{actCases}
+use Rattle.arbiter.specs.Effects.{completedRows}
+use Rattle.arbiter.specs.Meaning.{moved, timeAt}
+use Rattle.arbiter.specs.Verdicts.{actCases}
 use borrow.Author.Needs.{needs}
 use Rattle.arbiter.proofs.table.Table.complete.Statement.{statement}
 use Rattle.arbiter.proofs.table.Table.complete.Tie as tie
@@ -38,7 +39,7 @@ enum-known-verdict-2 : tie.Need-enum-known-verdict-2
 enum-known-verdict-2 c = search needs
 
 completed-requires : tie.Need-completed-requires
-unfolding ascends case
+unfolding case
 completed-requires c κs =
     let a = c .before .before .before .before .before .before .before .before .before .args in
     let v = judged (c .before .before .verdict2 .given .1) (c .before .before .before .before .act-verdict .ensures) in (

@@ -2,7 +2,7 @@
 use Prim.Native.Nat.{ℕ, _+_}
 use mathlib.Core.Path.{refl}
 use Rattle.event.specs.declared.events.Event.the-variants.{Open}
-use Rattle.laws.specs.Cases.{ascends, case}
+use Rattle.laws.specs.Cases.{case}
 use Rattle.event.specs.Limits.{jobs}
 use Rattle.arbiter.proofs.Answering.{accepted-answers, refused-answers}
 use Rattle.arbiter.proofs.Verdicts.{has-row, judged, last-in-range}
@@ -29,7 +29,7 @@ enum-known-verdict-2 : tie.Need-enum-known-verdict-2
 enum-known-verdict-2 c = search needs
 
 opened-requires : tie.Need-opened-requires
-unfolding ascends case
+unfolding case
 opened-requires c κs =
     let a = c .before .before .before .before .before .before .args in
     let v = judged (c .before .verdict2 .given .1) (c .before .before .before .open-verdict .ensures) in (

@@ -1,0 +1,14 @@
+-- A live row by itself, resource by resource.
+use Prim.Native.Nat.{_≤_}
+use Rattle.laws.specs.Members.{Apart, Some, Under, Within}
+use Rattle.rows.specs.declared.row.Row.{Row}
+use Rattle.arbiter.specs.declared.table.Table.{Table}
+
+-- a live row by itself, resource by resource
+pub record OwnRow (t : Table) (r : Row) : Type 0 where
+  pub given : r .turn .0 ≤ t .last .0
+  pub declares : Some (r .declared)
+  pub in-range : Under (r .declared) (t .resources)
+  pub held-declared : Within (r .held) (r .declared)
+  pub asked-declared : Within (r .asked) (r .declared)
+  pub apart : Apart (r .held) (r .asked)
