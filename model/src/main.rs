@@ -10,14 +10,15 @@
 //! model calls < calls > cases
 //! model answers < calls > output
 //! model case-size
+//! model block-size
 //! model tally FILE...
 //! model tally-recordings FILE...
 //! ```
 //!
 //! `make-cases each` makes cases until the tally has met all so often. Both tallies
 //! exit with 1 if something was never met. `answers` prints what is written by hand
-//! beside the calls, as the probe must print it. Wrong arguments, and input or output that
-//! fails, exit with 2.
+//! beside the calls, as the probe must print it. The sizes are the bytes of a case and
+//! the records of a block. Wrong arguments, and input or output that fails, exit with 2.
 
 mod answer;
 mod arbiter;
@@ -83,6 +84,7 @@ fn run(arguments: &[&str]) -> io::Result<bool> {
         ["calls"] => put_out(calls::cases(&io::read_to_string(input)?)?, out),
         ["answers"] => put_out([calls::answers(&io::read_to_string(input)?)?], out),
         ["case-size"] => put_out([format!("{}\n", case::CASE).into()], out),
+        ["block-size"] => put_out([format!("{}\n", recordings::BLOCK).into()], out),
         ["tally", ref files @ ..] => tally::of_cases(&read(files)?, out),
         ["tally-recordings", ref files @ ..] => tally::of_recordings(&read(files)?, out),
         _ => Err(wrong()),
@@ -113,7 +115,8 @@ fn usage() -> String {
     let recordings: Vec<&str> = recordings::kinds().collect();
     let cases: Vec<&str> = cases::kinds().collect();
     format!(
-        "arguments: replay | probe | record | questions | calls | answers | case-size\n\
+        "arguments: replay | probe | record | questions | calls | answers\n\
+         case-size | block-size\n\
          tally FILE... | tally-recordings FILE...\n\
          make-recording KIND SEED COUNT, KIND one of {}\n\
          make-cases KIND SEED COUNT, KIND one of each {}",
