@@ -65,8 +65,10 @@ function around() {
 }
 
 function buffers() {
-    printf "%s", "\nWere buffers cleared first? In Norakkeun yes: `probe` clears 65,536 bytes for the list and 2,601 for the case each "
-    printf "%s", "time, `replay` a block of 3,276 bytes for each 234 records and a room of 65,536 once. In the plain program no: its "
+    printf "\nWere buffers cleared first? In Norakkeun yes: `probe` clears 65,536 bytes for the list and %s for the case each ", \
+        big(bytes)
+    printf "time, `replay` a block of %s bytes for each %s records and a room of 65,536 once. In the plain program no: its ", \
+        big(14 * records), big(records)
     printf "%s", "buffers are cleared once, at its start; a call that puts the jobs in line clears 512 bytes for that, which is in its "
     printf "%s", "figures. In the table above the rest is left out with all that is around a call "
     printf "(Norakkeun %s instructions, plain %s; with a list of 64, %s and %s). ", big(alone["norakkeun"]), big(alone["plain"]), \

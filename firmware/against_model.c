@@ -13,16 +13,16 @@
 
 /* What the archive was compiled for; each array has a negative length if the header's compiler thinks otherwise. */
 typedef char row_is_40_bytes[sizeof(norakkeun_row) == 40 ? 1 : -1];
-typedef char table_is_2592_bytes[sizeof(norakkeun_table) == 2592 ? 1 : -1];
+typedef char table_is_32_bytes_and_rows[sizeof(norakkeun_table) == 32 + NORAKKEUN_JOBS * sizeof(norakkeun_row) ? 1 : -1];
 typedef char time_is_at_16[offsetof(norakkeun_table, time) == 16 ? 1 : -1];
-typedef char told_is_2608_bytes[sizeof(norakkeun_told) == 2608 ? 1 : -1];
+typedef char told_is_16_bytes_and_a_table[sizeof(norakkeun_told) == 16 + sizeof(norakkeun_table) ? 1 : -1];
 typedef char told_table_is_at_16[offsetof(norakkeun_told, table) == 16 ? 1 : -1];
 typedef char job_report_is_32_bytes[sizeof(norakkeun_job_report) == 32 ? 1 : -1];
 typedef char late_jobs_is_8_bytes[sizeof(norakkeun_late_jobs) == 8 ? 1 : -1];
 
 /* The calls by their numbers in a case. In a record the events have the same numbers, and a start has 5. */
 enum { BEAT, OPEN, ASK, RELEASE, COMPLETE, REPORT, OVERDUE, START, WRITE_BEAT, WRITE_START = 13 };
-enum { START_RECORD = 5, CASE_BYTES = 2601, LONGEST_LIST = 65535 };
+enum { START_RECORD = 5, CASE_BYTES = 41 + 40 * NORAKKEUN_JOBS, LONGEST_LIST = 65535 };
 
 /* What is handed to a call. A start takes its numbers from the table. */
 typedef struct call {

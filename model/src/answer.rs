@@ -174,6 +174,6 @@ fn recorded(case: &Case) -> Record {
 }
 
 /// Overwrites the front of a list and leaves the rest.
-fn put(list: &mut [u8], front: &[u8]) {
+pub fn put(list: &mut [u8], front: &[u8]) {
     list[..front.len()].copy_from_slice(front);
 }

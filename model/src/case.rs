@@ -3,8 +3,15 @@
 use crate::table::{Row, Table, JOBS};
 use std::fmt;
 
+/// Bytes before the rows: those of a call, job, tick, set and room, and the table's
+/// own numbers.
+const HEAD: usize = 1 + 4 + 4 + 8 + 2 + 1 + 1 + 4 + 8 + 8;
+
+/// Bytes of a row: five numbers.
+const ROW: usize = 5 * 8;
+
 /// Bytes of a case.
-pub const CASE: usize = 2601;
+pub const CASE: usize = HEAD + ROW * JOBS;
 
 #[derive(Clone, Copy, Debug, PartialEq, Eq)]
 pub enum Call {
@@ -49,6 +56,19 @@ impl Call {
 
     pub fn has_list(self) -> bool {
         self.writes() || matches!(self, Call::Complete | Call::Overdue)
+    }
+
+    /// The call that writes the record of this one. A question has no record.
+    pub fn writing(self) -> Option<Call> {
+        match self {
+            Call::Beat => Some(Call::WriteBeat),
+            Call::Open => Some(Call::WriteOpen),
+            Call::Ask => Some(Call::WriteAsk),
+            Call::Release => Some(Call::WriteRelease),
+            Call::Complete => Some(Call::WriteComplete),
+            Call::Start => Some(Call::WriteStart),
+            _ => None,
+        }
     }
 }
 

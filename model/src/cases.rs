@@ -209,10 +209,11 @@ fn case(random: &mut Random, plan: &Plan, walk: &mut Walk) -> Case {
 /// Jobs in every state the refusals know, and numbers that no job has: some of
 /// those would be a live job's if their upper bits were lost.
 fn job(random: &mut Random, arbiter: &Arbiter, call: Call) -> u32 {
+    let jobs = JOBS as u32;
     let any = random.below(JOBS as u64) as u32;
     let state: fn(&Arbiter, &Request) -> bool = match random.below(9) {
         0 => return any,
-        1 => return random.pick(&[64, 255, u32::MAX, any + 64, any + 256, any + (1 << 31)]),
+        1 => return random.pick(&[jobs, 255, u32::MAX, any + jobs, any + 256, any + (1 << 31)]),
         2..=4 if call == Call::Open => return idle(random, arbiter),
         2 => |a, r| !a.has_token(r.turn),
         3 => |_, r| !r.asked.is_empty(),
@@ -289,11 +290,12 @@ fn odd_set(random: &mut Random, arbiter: &Arbiter, job: u32) -> Set {
 }
 
 fn room(random: &mut Random, short: bool, call: Call) -> u16 {
+    let jobs = JOBS as u16;
     if short {
-        random.pick(&[0, 1, 13, 14, 15, 63, 64, 65, 255, 256, 257])
+        random.pick(&[0, 1, 13, 14, 15, jobs - 1, jobs, jobs + 1, 255, 256, 257])
     } else if call.writes() {
         random.pick(&[14, 14, 20])
     } else {
-        random.pick(&[64, 64, 65, 100])
+        random.pick(&[jobs, jobs, jobs + 1, jobs + 36])
     }
 }

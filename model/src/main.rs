@@ -7,16 +7,22 @@
 //! model make-cases KIND SEED COUNT > cases
 //! model record < lines > recording
 //! model questions < lines > cases
+//! model calls < calls > cases
+//! model answers < calls > output
+//! model case-size
+//! model block-size
 //! model tally FILE...
 //! model tally-recordings FILE...
 //! ```
 //!
 //! `make-cases each` makes cases until the tally has met all so often. Both tallies
-//! exit with 1 if something was never met. Wrong arguments, and input or output that
-//! fails, exit with 2.
+//! exit with 1 if something was never met. `answers` prints what is written by hand
+//! beside the calls, as the probe must print it. The sizes are the bytes of a case and
+//! the records of a block. Wrong arguments, and input or output that fails, exit with 2.
 
 mod answer;
 mod arbiter;
+mod calls;
 mod case;
 mod cases;
 mod clock;
@@ -75,6 +81,10 @@ fn run(arguments: &[&str]) -> io::Result<bool> {
         }
         ["record"] => put_out([lines::recording(&io::read_to_string(input)?)?], out),
         ["questions"] => put_out(lines::questions(&io::read_to_string(input)?)?, out),
+        ["calls"] => put_out(calls::cases(&io::read_to_string(input)?)?, out),
+        ["answers"] => put_out([calls::answers(&io::read_to_string(input)?)?], out),
+        ["case-size"] => put_out([format!("{}\n", case::CASE).into()], out),
+        ["block-size"] => put_out([format!("{}\n", recordings::BLOCK).into()], out),
         ["tally", ref files @ ..] => tally::of_cases(&read(files)?, out),
         ["tally-recordings", ref files @ ..] => tally::of_recordings(&read(files)?, out),
         _ => Err(wrong()),
@@ -105,7 +115,8 @@ fn usage() -> String {
     let recordings: Vec<&str> = recordings::kinds().collect();
     let cases: Vec<&str> = cases::kinds().collect();
     format!(
-        "arguments: replay | probe | record | questions\n\
+        "arguments: replay | probe | record | questions | calls | answers\n\
+         case-size | block-size\n\
          tally FILE... | tally-recordings FILE...\n\
          make-recording KIND SEED COUNT, KIND one of {}\n\
          make-cases KIND SEED COUNT, KIND one of each {}",

@@ -28,10 +28,7 @@ pub fn next_case(input: &mut impl Read) -> io::Result<Next> {
 pub fn run(mut input: impl Read, mut out: impl Write) -> io::Result<()> {
     for number in 1_u64.. {
         match next_case(&mut input)? {
-            Next::Case(case) => {
-                write!(out, "{number} ")?;
-                print(&mut out, case.call, &answer(&case))?;
-            }
+            Next::Case(case) => print(&mut out, number, case.call, &answer(&case))?,
             Next::Cut => {
                 writeln!(out, "cut")?;
                 break;
@@ -42,8 +39,8 @@ pub fn run(mut input: impl Read, mut out: impl Write) -> io::Result<()> {
     out.flush()
 }
 
-fn print(out: &mut impl Write, call: Call, outcome: &Outcome) -> io::Result<()> {
-    writeln!(out, "{}", outcome.answer)?;
+pub fn print(out: &mut impl Write, number: u64, call: Call, outcome: &Outcome) -> io::Result<()> {
+    writeln!(out, "{number} {}", outcome.answer)?;
     if call.has_list() {
         write!(out, "list")?;
         for entry in &outcome.list {

@@ -4,11 +4,15 @@ use crate::drive::{self, Style};
 use crate::random::Random;
 use crate::record::{self, Record, LENGTH};
 use crate::replay::Replay;
-use crate::table::Table;
+use crate::table::{Table, JOBS};
+
+/// Bytes of the longest line of a listing: a number of 20 digits, ` ok`, every job
+/// behind a space, in up to three digits, and the line's end.
+const LINE: u64 = 20 + 3 + 4 * JOBS as u64 + 1;
 
 /// Records that the replay program takes at once: as many as have room for their
 /// longest lines in 65,536 bytes.
-const BLOCK: u64 = 234;
+pub const BLOCK: u64 = 65_536 / LINE;
 
 const CALM: &[u64] = &[0, 0, 0, 1, 1, 2, 3, 40, 1000];
 
@@ -56,7 +60,7 @@ const PLANS: [(&str, Plan); 10] = [
         },
     ),
     ("ticks", plan(12, HALVES, 12)),
-    ("crowd", plan(64, CALM, 12)),
+    ("crowd", plan(JOBS as u64, CALM, 12)),
     ("few", plan(2, CALM, 4)),
     // One tick for all, so that copies of it behind each other are no mere refusals.
     ("still", plan(12, &[0], 40)),
@@ -65,7 +69,7 @@ const PLANS: [(&str, Plan); 10] = [
         Plan {
             tokens: &[1, 64],
             resources: &[1, 64],
-            ..plan(64, CALM, 12)
+            ..plan(JOBS as u64, CALM, 12)
         },
     ),
     ("cut", plan(12, CALM, 12)),
@@ -88,8 +92,8 @@ pub fn kinds() -> impl Iterator<Item = &'static str> {
 /// A recording of `count` records. Nothing if there is no such kind.
 ///
 /// The seed steps through the edges, so that a row of seeds meets them all: a `cut`
-/// one has seed modulo 14 bytes more; a `block` one has `count` times 234 records,
-/// less one to more one by seed modulo 3, and (seed / 3) modulo 14 bytes more; a
+/// one has seed modulo 14 bytes more; a `block` one has `count` times `BLOCK`
+/// records, less one to more one by seed modulo 3, and (seed / 3) modulo 14 bytes more; a
 /// `first` one has one of seven bad beginnings by seed modulo 7, the last of them
 /// (seed / 7) modulo 14 bytes and no more.
 pub fn make(kind: &str, seed: u64, count: u64) -> Option<Vec<u8>> {

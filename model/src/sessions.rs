@@ -2,10 +2,12 @@
 
 use crate::answer::{answer, Answer, Outcome, Report};
 use crate::arbiter::Arbiter;
+use crate::calls;
 use crate::case::{Call, Case, CALLS, CASE};
 use crate::clock::{forward, TOP};
 use crate::drive::{self, Style};
 use crate::lines;
+use crate::probe;
 use crate::random::Random;
 use crate::record::{self, Record, LENGTH};
 use crate::replay::{self, case_of};
@@ -422,5 +424,91 @@ fn lines_stand_for_records_and_questions() {
         "bytes 100",
     ] {
         assert!(lines::recording(wrong).is_err(), "{wrong}");
+    }
+}
+
+const CALLS_BY_HAND: [&str; 2] = [
+    include_str!("../../tests/calls/sessions.calls"),
+    include_str!("../../tests/calls/clock.calls"),
+];
+
+/// Whether the probe prints just the answers that are written by hand.
+fn as_written(text: &str) -> bool {
+    let cases = calls::cases(text).expect("good calls").concat();
+    let mut printed = Vec::new();
+    probe::run(cases.as_slice(), &mut printed).expect("memory takes all");
+    printed == calls::answers(text).expect("good calls")
+}
+
+#[test]
+fn calls_are_answered_as_written() {
+    for text in CALLS_BY_HAND {
+        assert!(as_written(text));
+    }
+}
+
+/// What an answer is mistaken for.
+const MISTAKES: [(&str, &str); 16] = [
+    ("no ", "no 1"),
+    ("done", "wait"),
+    ("token", "wait"),
+    ("granted", "token"),
+    ("wait", "granted"),
+    ("0, jobs", "1, jobs 5"),
+    ("1, jobs ", "1, jobs 5"),
+    ("1, jobs ", "2, jobs 5 "),
+    ("wrote ", "wrote 9 "),
+    (" 0 0", " 0 7"),
+    ("turn 2", "turn 1"),
+    ("no token", "token"),
+    ("token, waiting", "token, not waiting"),
+    ("not waiting", "waiting"),
+    (" ahead", "7 ahead"),
+    (" in the way", "7 in the way"),
+];
+
+#[test]
+fn a_wrong_answer_by_hand_is_found() {
+    let mut tried = 0;
+    for text in CALLS_BY_HAND {
+        let lines: Vec<&str> = text.lines().collect();
+        for (place, line) in lines.iter().enumerate() {
+            let Some((call, said)) = line.split_once(" : ") else {
+                continue;
+            };
+            for (right, wrong) in MISTAKES {
+                let answer = said.replacen(right, wrong, 1);
+                let mistaken = format!("{call} : {answer}");
+                let text = [&lines[..place], &[&mistaken]].concat().join("\n");
+                // Of a report's words some are no answer by themselves.
+                if answer != said && calls::cases(&text).is_ok() {
+                    assert!(!as_written(&text), "{mistaken}");
+                    tried += 1;
+                }
+            }
+        }
+    }
+    assert!(tried > 60, "{tried}");
+}
+
+#[test]
+fn a_call_by_hand_has_an_answer() {
+    for wrong in [
+        "open 64 1001 1",
+        "open 64 1001 1 :",
+        "open 64 1001 1 : # no 4",
+        "open 64 1001 1 : no",
+        "open 64 1001 : no 4",
+        "open 64 1001 1 : no 4 : no 4",
+        ": no 4",
+        "complete 63 1059 : woke 2, jobs 1",
+        "complete 63 1059 : woke 1",
+        "report 1 : turn 2, token, 1 ahead, 1 in the way",
+        "write 15 report 1 : no 4",
+        "write 1 beat 0 : wrote 1 2",
+        "bytes 0 : no 17",
+    ] {
+        assert!(calls::cases(wrong).is_err(), "{wrong}");
+        assert!(calls::answers(wrong).is_err(), "{wrong}");
     }
 }

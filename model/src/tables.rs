@@ -9,7 +9,7 @@ use crate::replay::case_of;
 use crate::set::{from_number, to_number, Set};
 use crate::table::{Row, Table, JOBS};
 
-const STYLES: [Style; 3] = [style(4), style(12), style(64)];
+const STYLES: [Style; 3] = [style(4), style(12), style(JOBS as u64)];
 
 const fn style(jobs: u64) -> Style {
     Style {
