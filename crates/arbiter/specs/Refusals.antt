@@ -4,7 +4,7 @@ use mathlib.Core.Bool.{Bool, false, cond, not}
 use mathlib.Core.List.{List, [], _∷_, _++_}
 use lib.Dec.{eqb, leb, ltb}
 use Rattle.event.specs.Clock.{clockRefusals, goneBack, timeSpent}
-use Rattle.event.specs.Events.{about, jobOf, kindOf, setOf, tableRefusals, tickOf}
+use Rattle.event.specs.Events.{about, asked, jobOf, setOf, tickOf}
 use Rattle.event.specs.Limits.{highest, jobs}
 use Rattle.event.specs.Refusals.{casesBy, refusing}
 use Rattle.event.specs.declared.events.Event.{Event}
@@ -59,7 +59,7 @@ listCases n = refusing ShortList (ltb n jobs) ∷ []
 abbrev pub cases : ℕ → Table → Event → List Case
 cases n t e =
     cond (about e .wakes) (listCases n) []
-    ++ casesBy (applies t (calling (jobOf e) (tickOf e) (setOf e))) (tableRefusals (kindOf e))
+    ++ casesBy (applies t (calling (jobOf e) (tickOf e) (setOf e))) (asked (about e))
 
 -- the case of a start
 abbrev pub startCases : ℕ → ℕ → ℕ → List Case

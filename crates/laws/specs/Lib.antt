@@ -6,6 +6,7 @@ pub mod Cases
 pub mod Counts
 pub mod Front
 pub mod FrontLaws
+pub mod GoneLaws
 pub mod HoldLaws
 pub mod ListLaws
 pub mod Lists

@@ -20,7 +20,8 @@ use Rattle.arbiter.specs.Answers as Answers
 use Rattle.arbiter.specs.Meaning.{accepted, answer, next, run, wakes}
 use Rattle.arbiter.specs.declared.table.Table.{Table}
 use Rattle.promises.specs.Demand.Statement.{Granted, Has}
-use Rattle.promises.specs.History.Words.{lists, names, Along, Bears}
+use Rattle.event.specs.Events.{names}
+use Rattle.promises.specs.History.Words.{lists, Along, Bears}
 use Rattle.promises.specs.History.Events.{next-either}
 use Rattle.promises.specs.History.Count.{ahead-accepted, along-accepted, along-next, way-accepted, way-run}
 use Rattle.promises.specs.History.Row.{bears-after, lives, sets-after, waiting-is}

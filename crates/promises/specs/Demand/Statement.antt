@@ -18,7 +18,8 @@ use Rattle.arbiter.specs.Answers as Answers
 use Rattle.arbiter.specs.Meaning.{answer, next, report, run, startAnswer, startTable}
 use Rattle.arbiter.specs.declared.table.Report.{Report}
 use Rattle.arbiter.specs.declared.table.Table.{Table}
-use Rattle.promises.specs.History.Words.{heeded, leavings, lists, names, taken}
+use Rattle.event.specs.Events.{names}
+use Rattle.promises.specs.History.Words.{heeded, leavings, lists, taken}
 use Rattle.arbiter.specs.Sound.{rowIn}
 
 -- job j holds the set h and asks for the set a

@@ -24,7 +24,8 @@ use Rattle.rows.specs.Turns.{turn-earlier}
 use Rattle.rows.specs.declared.row.Row.{Row}
 use Rattle.arbiter.specs.Meaning.{accepted, next, openedRow, run, timeAt, wakes}
 use Rattle.arbiter.specs.declared.table.Table.{Table}
-use Rattle.promises.specs.History.Words.{Leaves, leaving, leavings, lists, names, none, one, taken, Along, Bears}
+use Rattle.event.specs.Events.{names}
+use Rattle.promises.specs.History.Words.{Leaves, leaving, leavings, lists, none, one, taken, Along, Bears}
 use Rattle.promises.specs.History.Events.{next-either, who-leaves}
 use Rattle.promises.specs.History.Count.{ahead-run, along-accepted, along-next, lower-ahead}
 use Rattle.promises.specs.History.Row.{alive, bears-after, lives, sets-after, waiting-is}

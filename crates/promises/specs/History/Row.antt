@@ -17,7 +17,8 @@ use Rattle.rows.specs.Turns.{waiting-reads}
 use Rattle.rows.specs.declared.row.Row.{Row}
 use Rattle.arbiter.specs.Meaning.{accepted}
 use Rattle.arbiter.specs.declared.table.Table.{Table}
-use Rattle.promises.specs.History.Words.{names, Bears}
+use Rattle.event.specs.Events.{names}
+use Rattle.promises.specs.History.Words.{Bears}
 use Rattle.promises.specs.History.Count.{along-accepted}
 use Rattle.promises.specs.Kept.Words.{Accepts, Decided, Alike, Fate, acted, same, stayed}
 use Rattle.promises.specs.Kept.Accepted.{was-sound}

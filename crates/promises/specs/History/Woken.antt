@@ -14,7 +14,8 @@ use Rattle.rows.specs.Order.{waiting}
 use Rattle.rows.specs.Sweep.{woke, woken}
 use Rattle.arbiter.specs.Meaning.{accepted, wakes}
 use Rattle.arbiter.specs.declared.table.Table.{Table}
-use Rattle.promises.specs.History.Words.{names, Bears}
+use Rattle.event.specs.Events.{names}
+use Rattle.promises.specs.History.Words.{Bears}
 use Rattle.promises.specs.History.Row.{bears-after, lives}
 use Rattle.promises.specs.Kept.Words.{Accepts}
 use Rattle.promises.specs.Kept.Accepted.{actor-rests, ask-acts, complete-acts, idle-rests, next-accepted, open-idle, release-acts}

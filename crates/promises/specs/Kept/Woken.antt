@@ -22,7 +22,7 @@ use Rattle.rows.specs.Turns.{live-within, waiting-reads}
 use Rattle.rows.specs.declared.row.Row.{Row}
 use Rattle.arbiter.specs.Meaning.{accepted, askedRow, next, openedRow, releasedRow, timeAt, wakes}
 use Rattle.arbiter.specs.declared.table.Table.{Table}
-use Rattle.promises.specs.History.Words.{names}
+use Rattle.event.specs.Events.{names}
 use Rattle.promises.specs.Kept.Words.{Accepts, Acts, Decided, Swept, waits, completes, Fate, same, acted, stayed}
 use Rattle.promises.specs.Kept.Accepted.{actor-rests, ask-acts, complete-acts, idle-rests, next-accepted, next-tokens, open-idle, release-acts, was-sound}
 use Rattle.promises.specs.Kept.Decisions.{asks, sweeps}

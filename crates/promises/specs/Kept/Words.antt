@@ -15,7 +15,7 @@ use Rattle.rows.specs.declared.row.Row.{Row}
 use Rattle.event.specs.declared.events.Event.the-variants.{Beat, Open, Ask, Release, Complete}
 use Rattle.rows.specs.Sweep.{sweptRow}
 use Rattle.arbiter.specs.Meaning.{accepted, answer, overdue, report}
-use Rattle.promises.specs.History.Words.{names}
+use Rattle.event.specs.Events.{names}
 use mathlib.Core.Logic.{_≢_}
 
 -- no case refuses the event

@@ -1,0 +1,61 @@
+-- Who has gone: how many pass a test before and not after, and how that moves the count of those who pass.
+use Prim.Native.Nat.{ℕ, zero, suc, _+_, _≤_}
+use mathlib.Core.Bool.{Bool, true, false, not, _&&_, and-not-self}
+use mathlib.Core.List.{List, [], _∷_}
+use mathlib.Core.Path.{_≡_, refl, sym, ap, _∙_}
+use native.Mathlib.Nat.{le-antisymm}
+use native.Mathlib.Omega.{arith}
+use lib.ListN.{getD, length}
+use Rattle.laws.specs.Bools.{bit}
+use Rattle.laws.specs.Lists.{count, gone}
+
+-- those who pass after, and those who have gone, are those who passed before, and those who have come
+pub gone-balance :
+    {A : Type 0} (f : A → Bool) (l m : List A) → length l ≡ length m → gone f l m + count f m ≡ count f l + gone f m l
+unfolding count gone
+gone-balance f [] [] long = refl
+gone-balance f [] (y ∷ m) long = absurd (omega arith)
+gone-balance f (x ∷ l) [] long = absurd (omega arith)
+gone-balance f (x ∷ l) (y ∷ m) long = go (f x) (f y) (gone-balance f l m (omega arith))
+  where
+    go :
+        (a b : Bool) → gone f l m + count f m ≡ count f l + gone f m l →
+        bit (a && not b) + gone f l m + (bit b + count f m) ≡ bit a + count f l + (bit (b && not a) + gone f m l)
+    go true true more = omega arith
+    go true false more = omega arith
+    go false true more = omega arith
+    go false false more = omega arith
+
+module _ {A : Type 0} (d : A) where
+  -- whether the one at this place has gone
+  abbrev left : (A → Bool) → List A → List A → ℕ → Bool
+  left f l m k = f (getD l k d) && not (f (getD m k d))
+
+  -- where whoever is gone by f is gone by g, no more are gone by f
+  pub gone-mono :
+      (f g : A → Bool) (l m : List A) → ((k : ℕ) → left f l m k ≡ true → left g l m k ≡ true) → gone f l m ≤ gone g l m
+  unfolding gone
+  gone-mono f g [] m each = omega arith
+  gone-mono f g (x ∷ l) [] each = omega arith
+  gone-mono f g (x ∷ l) (y ∷ m) each =
+      go (f x && not (f y)) (g x && not (g y)) (each 0) (gone-mono f g l m (λ k. each (suc k)))
+    where
+      go : (a b : Bool) → (a ≡ true → b ≡ true) → gone f l m ≤ gone g l m → bit a + gone f l m ≤ bit b + gone g l m
+      go true b e more = rw (e refl) (omega arith)
+      go false b e more = omega arith
+
+  pub gone-same :
+      (f g : A → Bool) (l m : List A) → ((k : ℕ) → left f l m k ≡ left g l m k) → gone f l m ≡ gone g l m
+  gone-same f g l m each =
+      le-antisymm (gone-mono f g l m (λ k e. sym (each k) ∙ e)) (gone-mono g f l m (λ k e. each k ∙ e))
+
+  -- where nobody has gone at any place, nobody has
+  pub gone-none : (f : A → Bool) (l m : List A) → ((k : ℕ) → left f l m k ≡ false) → gone f l m ≡ 0
+  unfolding gone
+  gone-none f [] m each = refl
+  gone-none f (x ∷ l) [] each = refl
+  gone-none f (x ∷ l) (y ∷ m) each = rw (each 0, gone-none f l m (λ k. each (suc k)))
+
+  -- from a list to itself nobody has
+  pub gone-self : (f : A → Bool) (l : List A) → gone f l l ≡ 0
+  gone-self f l = gone-none f l l (λ k. and-not-self (f (getD l k d)))
