@@ -91,3 +91,11 @@ module _ (f : Refusal → Bool) where
       go true q c p in-it e more = absurd (omega (arith, number-positive x, e))
       go false q true p in-it e more = ap f (sym (numberOf-tells x r (eqb-true (numberOf x) (numberOf r) p))) ∙ q
       go false q false p in-it e more = more in-it e
+
+  -- where one of them applies there is a first
+  pub some-first : (rs : List Refusal) (r : Refusal) → among r rs ≡ true → f r ≡ true → 0 < first (casesBy f rs)
+  some-first rs r in-it e = go (first (casesBy f rs)) refl
+    where
+      go : (k : ℕ) → first (casesBy f rs) ≡ k → 0 < k
+      go zero q = absurd (false≢true (sym (clear-named rs r in-it q) ∙ e))
+      go (suc k) q = omega arith

@@ -1,11 +1,11 @@
 -- Laws of truth values: as numbers, in conjunctions, in choices.
 use Prim.Native.Nat.{ℕ, _≤_}
 use mathlib.Core.Bool.{Bool, true, false, cond, not, _&&_, and-comm}
-use mathlib.Core.Path.{_≡_, refl, sym, _∙_}
+use mathlib.Core.Path.{_≡_, refl, sym, ap, _∙_}
 use native.Mathlib.Omega.{arith}
 use borrow.Author.Tests.{le-leb, lt-leb, ltb-false, ltb-true}
 use lib.Dec.{leb, ltb}
-use Rattle.laws.specs.Bools.{bit}
+use Rattle.laws.specs.Bools.{bit, implies}
 
 pub bit-le : (b : Bool) → bit b ≤ 1
 bit-le true = omega arith
@@ -29,3 +29,26 @@ not-ltb a b = go (ltb a b) refl
 pub either : {A B : Type 0} (g : A → B) (b : Bool) (x y : A) → g y ≡ g x → g (cond b x y) ≡ g x
 either g true x y e = refl
 either g false x y e = e
+
+-- ---- If a then b
+
+module _ (a b : Bool) where
+  pub implied : implies a b ≡ true → a ≡ true → b ≡ true
+  implied e h = sym (ap (λ (a : Bool). implies a b) h) ∙ e
+
+  pub implying : (a ≡ true → b ≡ true) → implies a b ≡ true
+  implying h = go a h
+    where
+      go : (a : Bool) → (a ≡ true → b ≡ true) → implies a b ≡ true
+      go true h = h refl
+      go false h = refl
+
+-- read the other way round
+pub denied : (a b : Bool) → implies a b ≡ true → b ≡ false → a ≡ false
+denied true b e h = sym e ∙ h
+denied false b e h = refl
+
+pub denying : (a b : Bool) → (b ≡ false → a ≡ false) → implies a b ≡ true
+denying true true h = refl
+denying true false h = sym (h refl)
+denying false b h = refl

@@ -1,4 +1,5 @@
 pub mod Accepted
+pub mod Changes
 pub mod Decisions
 pub mod Events
 pub mod Named

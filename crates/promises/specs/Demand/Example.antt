@@ -8,7 +8,7 @@ use Rattle.event.specs.declared.clock.Tick.{Tick}
 use Rattle.event.specs.declared.events.Event.{Event}
 use Rattle.event.specs.declared.events.Event.the-variants.{Beat, Open, Ask, Complete}
 use Rattle.laws.specs.Cases.{Outcome, refused, fine, first, leaves, outcome}
-use Rattle.laws.specs.Lists.{all, count}
+use Rattle.laws.specs.Lists.{all, count, gone}
 use Rattle.laws.specs.Sets.{below, inside, meet, meets, union}
 use Rattle.rows.specs.Line.{from, keep, lined, place}
 use Rattle.event.specs.Limits.{jobs}
@@ -143,7 +143,7 @@ pub record Shown : Type 0 where
   pub wakes : lists set-waits (Complete 2 (at 7)) ≡ 3 ∷ 6 ∷ []
 
 pub shown : Shown
-unfolding answers leavings answer outcome startTable run next leaves first sound all distinct count ahead inWay below inside meet meets settled union woken keep lined from place
+unfolding answers leavings gone answer outcome startTable run next leaves first sound all distinct count ahead inWay below inside meet meets settled union woken keep lined from place
 shown =
     record {
       behind = refl;

@@ -98,7 +98,7 @@ module _ (T R begin limit : ℕ) (past : List Event) (j : ℕ) (tick : Tick) (s 
       let still : rowIn end j .turn .0 ≡ turn = ap (λ (r : Report). r .turn .0) is ∙ same in
       let number : r .«in_way» ≡ inWay (end .rows) turn s =
       ap (λ (r : Report). r .«in_way») (sym is) ∙ (λ i. inWay (end .rows) (still i) (declares since still i)) in
-      omega (arith, way-run table (bears .along) s since)
+      omega (arith, way-run table (bears .along) since s)
 
   pub demand3 : Demand3 T R begin limit past j tick s later
   demand3 =

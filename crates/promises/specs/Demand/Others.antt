@@ -9,20 +9,21 @@ use borrow.Author.Tests.{lt-ltb, ltb-true}
 use lib.Dec.{eqb}
 use Rattle.event.specs.declared.events.Event.{Event}
 use Rattle.laws.specs.Bools.{bit}
-use Rattle.laws.specs.Lists.{count}
+use Rattle.laws.specs.GoneLaws.{gone-none}
+use Rattle.laws.specs.Lists.{count, gone}
 use Rattle.rows.specs.InWay.{in-way-ahead}
 use Rattle.event.specs.Limits.{jobs}
-use Rattle.rows.specs.Order.{ahead, claims, earlier, inWay, live, token, waiting}
+use Rattle.rows.specs.Order.{ahead, idle, inWay, live, token, waiting}
 use Rattle.rows.specs.declared.row.Row.{Row}
 use Rattle.arbiter.specs.Meaning.{accepted, next, run, wakes}
 use Rattle.arbiter.specs.declared.table.Table.{Table}
 use Rattle.promises.specs.Demand.Statement.{Beside, Unmoved}
-use Rattle.promises.specs.History.Words.{Leaves, heeded, leaving, leavings, none, one, taken, Along, Bears}
-use Rattle.promises.specs.History.Events.{next-either, who-leaves}
-use Rattle.promises.specs.History.Count.{ahead-accepted, lower-ahead, lower-way, way-accepted}
+use Rattle.promises.specs.History.Words.{heeded, leaving, leavings, taken, Along, Bears}
+use Rattle.promises.specs.History.Events.{next-either}
+use Rattle.promises.specs.Kept.Changes.{ahead-accepted, changes, ends, left-by, lower-ahead, lower-way, way-accepted}
 use Rattle.promises.specs.History.Row.{row-after, swept-alike, swept-rests}
 use Rattle.promises.specs.History.Woken.{listed-after}
-use Rattle.promises.specs.Kept.Words.{Accepts, Alike}
+use Rattle.promises.specs.Kept.Words.{ByOpening, Change, began, ended, kept, Accepts, Alike}
 use Rattle.promises.specs.Kept.Accepted.{was-sound}
 use Rattle.promises.specs.Kept.Rows.{waiting-alike}
 use Rattle.arbiter.specs.Sound.{rowIn}
@@ -34,14 +35,20 @@ way-bounded T rows n s has = omega (arith, in-way-ahead rows n s, ltb-true (ahea
 
 -- ---- Later requests
 
--- what fails of every higher turn than n counts nobody who leaves by an event beside those up to n
-beside-leaves :
-    (f : Row → Bool) (n : ℕ) (t : Table) (e : Event) → Beside n t e → ((r : Row) → n < r .turn .0 → f r ≡ false) →
-    Leaves t e → leaving f t e ≡ 0
-beside-leaves f n t e aside late (none stays) = stays f
-beside-leaves f n t e aside late (one i a named leaves) =
-    let above : ¬ (rowIn t i .turn .0 ≤ n) = λ low. true≢false (sym named ∙ aside i (lt-ltb 0 (rowIn t i .turn .0) (a .alive)) low) in
-    leaves f ∙ ap bit (late (rowIn t i) (omega arith))
+-- of those who pass a test that fails of every higher turn than n, none leaves by an event beside those up to n
+beside-stays :
+    {f : Row → Bool} (opening : ByOpening f) (n : ℕ) (t : Table) (e : Event) → Accepts jobs t e → Beside n t e →
+    ((r : Row) → n < r .turn .0 → f r ≡ false) → gone f (t .rows) (accepted t e .rows) ≡ 0
+beside-stays {f} opening n t e ok aside late =
+    gone-none idle f (t .rows) (accepted t e .rows)
+    (λ k. left-by opening t e k (changes jobs t e ok k) ∙ go k (changes jobs t e ok k))
+  where
+    go : (k : ℕ) (c : Change t e k) → (ends c && f (rowIn t k)) ≡ false
+    go k (kept _) = refl
+    go k (ended _ named a _) =
+        let above : ¬ (rowIn t k .turn .0 ≤ n) = λ low. true≢false (sym named ∙ aside k (lt-ltb 0 (rowIn t k .turn .0) (a .alive)) low) in
+        late (rowIn t k) (omega arith)
+    go k (began _ _ _) = refl
 
 module _ {T n : ℕ} (t : Table) (along : Along T n t) (e : Event) (aside : Beside n t e) where
   abbrev turn : ℕ → ℕ
@@ -57,15 +64,16 @@ module _ {T n : ℕ} (t : Table) (along : Along T n t) (e : Event) (aside : Besi
     -- from a turn up to n the rows after look as those before
     alike-beside : (k : ℕ) → k ≤ n → Alike (t .rows) (after .rows) k
     alike-beside k low =
+        let given : k ≤ t .last .0 = omega (arith, along .given) in
         record {
           same-ahead =
-              let stays = beside-leaves (earlier k) n t e aside
-              (λ r late. lower-ahead k .late-fails r (omega arith)) (who-leaves t e ok) in
-              omega (arith, ahead-accepted t (lower k low) e ok);
+              let stays = beside-stays (lower-ahead k .opening) n t e ok aside
+              (λ r late. lower-ahead k .late-fails r (omega arith)) in
+              omega (arith, ahead-accepted jobs t e ok k given);
           same-way = λ x.
-              let stays = beside-leaves (claims k x) n t e aside
-              (λ r late. lower-way k x .late-fails r (omega arith)) (who-leaves t e ok) in
-              omega (arith, way-accepted t (lower k low) x e ok);
+              let stays = beside-stays (lower-way k x .opening) n t e ok aside
+              (λ r late. lower-way k x .late-fails r (omega arith)) in
+              omega (arith, way-accepted jobs t e ok k given x);
         }
 
     module _ (i : ℕ) (lives : live (rowIn t i) ≡ true) (low : turn i ≤ n) where

@@ -23,11 +23,12 @@ use Rattle.promises.specs.Demand.Statement.{Granted, Has}
 use Rattle.event.specs.Events.{names}
 use Rattle.promises.specs.History.Words.{lists, Along, Bears}
 use Rattle.promises.specs.History.Events.{next-either}
-use Rattle.promises.specs.History.Count.{ahead-accepted, along-accepted, along-next, way-accepted, way-run}
+use Rattle.promises.specs.Kept.Changes.{ahead-accepted, alike-quiet}
+use Rattle.promises.specs.History.Count.{along-accepted, along-next, way-run}
 use Rattle.promises.specs.History.Row.{bears-after, lives, sets-after, waiting-is}
 use Rattle.promises.specs.History.Woken.{listed-after, unnamed}
 use Rattle.promises.specs.Kept.Words.{Accepts}
-use Rattle.promises.specs.Kept.Accepted.{answer-accepted, ask-acts, next-accepted, passed}
+use Rattle.promises.specs.Kept.Accepted.{acts, answer-accepted, next-accepted, passed}
 use Rattle.promises.specs.Kept.Decisions.{decided-sets}
 use Rattle.promises.specs.Kept.Named.{asked}
 use Rattle.arbiter.specs.Sound.{rowIn}
@@ -39,7 +40,7 @@ token-stays :
     {T n : ℕ} (t : Table) → Along T n t → token T (t .rows) n ≡ true → (e : Event) → Accepts jobs t e →
     token T (accepted t e .rows) n ≡ true
 token-stays {T} {n} t along has e ok =
-    lt-ltb (ahead (accepted t e .rows) n) T (omega (arith, ahead-accepted t along e ok, ltb-true (ahead (t .rows) n) T has))
+    lt-ltb (ahead (accepted t e .rows) n) T (omega (arith, ahead-accepted jobs t e ok n (along .given), ltb-true (ahead (t .rows) n) T has))
 
 -- with a token, a request waits exactly while it asks
 waits-asking :
@@ -125,7 +126,7 @@ blocked-back :
     {T n : ℕ} (t : Table) → Along T n t → (x : ℕ) (es : List Event) → blocked (run t es .rows) n x ≡ true →
     blocked (t .rows) n x ≡ true
 blocked-back {n = n} t along x es q =
-    lt-ltb 0 (inWay (t .rows) n x) (omega (arith, way-run t along x es, ltb-true 0 (inWay (run t es .rows) n x) q))
+    lt-ltb 0 (inWay (t .rows) n x) (omega (arith, way-run t along es x, ltb-true 0 (inWay (run t es .rows) n x) q))
 
 waits-run :
     {T j n x h : ℕ} → 0 < x → {t : Table} → Waits T j n x h t → (es : List Event) → blocked (run t es .rows) n x ≡ true →
@@ -147,7 +148,7 @@ module _ {T n j : ℕ} {t : Table} (b : Bears T n j t) (tick : Tick) (x : ℕ) (
 
   pub ask-has-token : token T (t .rows) n ≡ true
   ask-has-token =
-      lt-ltb (ahead (t .rows) n) T (rw (b .along .tokens, b .turn) at (ask-acts jobs t j tick x ok .has))
+      lt-ltb (ahead (t .rows) n) T (rw (b .along .tokens, b .turn) at (acts jobs t (Ask j tick x) ok refl .has))
 
   pub ask-says : answer jobs t (Ask j tick x) ≡ fine (cond (blocked (t .rows) n x) Answers.saysWait Answers.saysGranted)
   ask-says =
@@ -157,9 +158,8 @@ module _ {T n j : ℕ} {t : Table} (b : Bears T n j t) (tick : Tick) (x : ℕ) (
   -- the ask itself moves nobody in or out of the way
   decided : blocked (t .rows) (row .turn .0) x ≡ blocked (asking .rows) n x
   decided =
-      let same : inWay (t .rows) n x ≡ inWay (asking .rows) n x =
-      omega (arith, way-accepted t (b .along) x (Ask j tick x) ok) in
-      ap (λ (m : ℕ). blocked (t .rows) m x) (b .turn) ∙ ap (ltb 0) same
+      ap (λ (m : ℕ). blocked (t .rows) m x) (b .turn)
+      ∙ ap (ltb 0) (alike-quiet jobs t (Ask j tick x) ok n (b .along .given) refl .same-way x)
 
   held-asked : rowIn asking j .held ≡ cond (blocked (asking .rows) n x) (row .held) (union (row .held) x)
   held-asked =
@@ -177,7 +177,7 @@ module _ {T n j : ℕ} {t : Table} (b : Bears T n j t) (tick : Tick) (x : ℕ) (
   waits-first : blocked (asking .rows) n x ≡ true → Waits T j n x (row .held) asking
   waits-first q =
       record {
-        bears = record { along = along-accepted (b .along) (Ask j tick x); some = b .some; turn = asked jobs t j tick x ok .turn ∙ b .turn };
+        bears = record { along = along-accepted (b .along) (Ask j tick x) ok; some = b .some; turn = asked jobs t j tick x ok .turn ∙ b .turn };
         has = token-stays t (b .along) ask-has-token (Ask j tick x) ok;
         held = held-asked ∙ ap (λ (b : Bool). cond b (row .held) (union (row .held) x)) q;
         asked = asked-asked ∙ ap (λ (b : Bool). cond b x 0) q;
@@ -186,7 +186,7 @@ module _ {T n j : ℕ} {t : Table} (b : Bears T n j t) (tick : Tick) (x : ℕ) (
   waits-while :
       (more : List Event) → blocked (run asking more .rows) n x ≡ true → Waits T j n x (row .held) (run asking more)
   waits-while more q =
-      let still = blocked-back asking (along-accepted (b .along) (Ask j tick x)) x more q in
+      let still = blocked-back asking (along-accepted (b .along) (Ask j tick x) ok) x more q in
       waits-run real (waits-first still) more q
 
   pub ask-granted : Granted j n x (row .held) (next jobs t (Ask j tick x))

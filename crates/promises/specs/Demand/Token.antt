@@ -13,9 +13,10 @@ use Rattle.event.specs.declared.clock.Tick.{Tick}
 use Rattle.event.specs.declared.events.Event.{Event}
 use Rattle.event.specs.declared.events.Event.the-variants.{Open}
 use Rattle.laws.specs.Bools.{bit}
-use Rattle.laws.specs.BoolLaws.{bit-le, and-left, either}
+use Rattle.laws.specs.BoolLaws.{and-left, either}
 use Rattle.laws.specs.Counts.{count-mono}
-use Rattle.laws.specs.Lists.{count}
+use Rattle.laws.specs.GoneLaws.{gone-mono, gone-same}
+use Rattle.laws.specs.Lists.{count, gone}
 use Rattle.rows.specs.InWay.{ahead-mono}
 use Rattle.event.specs.Limits.{jobs}
 use Rattle.rows.specs.Order.{ahead, blocked, earlier, idle, live, token, waiting}
@@ -25,12 +26,13 @@ use Rattle.rows.specs.declared.row.Row.{Row}
 use Rattle.arbiter.specs.Meaning.{accepted, next, openedRow, run, timeAt, wakes}
 use Rattle.arbiter.specs.declared.table.Table.{Table}
 use Rattle.event.specs.Events.{names}
-use Rattle.promises.specs.History.Words.{Leaves, leaving, leavings, lists, none, one, taken, Along, Bears}
-use Rattle.promises.specs.History.Events.{next-either, who-leaves}
-use Rattle.promises.specs.History.Count.{ahead-run, along-accepted, along-next, lower-ahead}
+use Rattle.promises.specs.History.Words.{leaving, leavings, lists, taken, Along, Bears}
+use Rattle.promises.specs.History.Events.{next-either}
+use Rattle.promises.specs.Kept.Changes.{changes, ends, left-by, lower-ahead, opening-live}
+use Rattle.promises.specs.History.Count.{ahead-run, along-accepted, along-next}
 use Rattle.promises.specs.History.Row.{alive, bears-after, lives, sets-after, waiting-is}
 use Rattle.promises.specs.History.Woken.{listed-after, unnamed}
-use Rattle.promises.specs.Kept.Words.{Accepts, Acts}
+use Rattle.promises.specs.Kept.Words.{Change, began, ended, kept, Accepts, Acts}
 use Rattle.promises.specs.Kept.Accepted.{next-accepted, open-below, open-idle, was-sound}
 use Rattle.arbiter.specs.Sound.{rowIn}
 use Rattle.promises.specs.Sound.Facts.{turns-given}
@@ -43,7 +45,7 @@ module _ {T : ℕ} (t : Table) (along : Along T 0 t) (j : ℕ) (tick : Tick) (s 
 
   pub along-opened : Along T n (next jobs t (Open j tick s))
   along-opened =
-      let after = along-accepted along (Open j tick s) in
+      let after = along-accepted along (Open j tick s) ok in
       subst (Along T n) (sym (next-accepted jobs t (Open j tick s) ok))
       (record { wide = after .wide; tokens = after .tokens; given = omega arith })
 
@@ -74,7 +76,7 @@ module _ {T : ℕ} (t : Table) (along : Along T 0 t) (j : ℕ) (tick : Tick) (s 
         arith,
         all-before,
         ahead-set (t .rows) j r (omega (arith, along .wide, open-below jobs t j tick s ok)) n,
-        ap bit (lower-ahead n .idle-fails (rowIn t j) (open-idle jobs t j tick s ok)),
+        ap bit (lower-ahead n .opening .idle-fails (rowIn t j) (open-idle jobs t j tick s ok)),
         ap bit (lower-ahead n .late-fails r (omega arith)),
       ))
 
@@ -133,11 +135,19 @@ module _ {T n : ℕ} where
           ))
 
   all-leave :
-      (t : Table) → Along T n t → T ≤ ahead (t .rows) n → (e : Event) → Leaves t e →
-      leaving live t e ≡ leaving (earlier n) t e
-  all-leave t along lacks e (none stays) = stays live ∙ sym (stays (earlier n))
-  all-leave t along lacks e (one i a named leaves) =
-      leaves live ∙ ap bit (acts-before t along lacks i a) ∙ sym (leaves (earlier n))
+      (t : Table) → Along T n t → T ≤ ahead (t .rows) n → (e : Event) → Accepts jobs t e →
+      gone live (t .rows) (accepted t e .rows) ≡ gone (earlier n) (t .rows) (accepted t e .rows)
+  all-leave t along lacks e ok =
+      gone-same idle live (earlier n) (t .rows) (accepted t e .rows)
+      (λ k.
+      left-by opening-live t e k (changes jobs t e ok k)
+      ∙ go k (changes jobs t e ok k)
+      ∙ sym (left-by (lower-ahead n .opening) t e k (changes jobs t e ok k)))
+    where
+      go : (k : ℕ) (c : Change t e k) → (ends c && live (rowIn t k)) ≡ (ends c && earlier n (rowIn t k))
+      go k (kept _) = refl
+      go k (ended _ _ a _) = acts-before t along lacks k a
+      go k (began _ _ _) = refl
 
   all-earlier :
       (t : Table) → Along T n t → (es : List Event) → T ≤ ahead (run t es .rows) n →
@@ -146,25 +156,36 @@ module _ {T n : ℕ} where
   all-earlier t along [] lacks = refl
   all-earlier t along (e ∷ es) lacks =
       ap₂ _+_
-      (next-either t e (λ b u. cond b (leaving live t e) 0 ≡ cond b (leaving (earlier n) t e) 0)
-      (λ ok. all-leave t along (omega (arith, ahead-run t along (e ∷ es))) e (who-leaves t e ok))
+      (next-either t e
+      (λ b u. cond b (gone live (t .rows) (u .rows)) 0 ≡ cond b (gone (earlier n) (t .rows) (u .rows)) 0)
+      (all-leave t along (omega (arith, ahead-run t along (e ∷ es))) e)
       refl)
       (all-earlier (next jobs t e) (along-next along e) es lacks)
 
 -- at any time the completions of earlier requests are no more than all
 module _ (n : ℕ) where
-  part-leaves : (t : Table) (e : Event) → Leaves t e → leaving (earlier n) t e ≤ leaving live t e
-  part-leaves t e (none stays) = omega (arith, stays (earlier n))
-  part-leaves t e (one i a named leaves) =
-      omega (arith, leaves (earlier n), leaves live, ap bit (lt-ltb 0 (rowIn t i .turn .0) (a .alive)), bit-le (earlier n (rowIn t i)))
+  part-leaves :
+      (t : Table) (e : Event) → Accepts jobs t e →
+      gone (earlier n) (t .rows) (accepted t e .rows) ≤ gone live (t .rows) (accepted t e .rows)
+  part-leaves t e ok =
+      gone-mono idle (earlier n) live (t .rows) (accepted t e .rows)
+      (λ k q.
+      left-by opening-live t e k (changes jobs t e ok k)
+      ∙ go k (changes jobs t e ok k) (sym (left-by (lower-ahead n .opening) t e k (changes jobs t e ok k)) ∙ q))
+    where
+      go : (k : ℕ) (c : Change t e k) → (ends c && earlier n (rowIn t k)) ≡ true → (ends c && live (rowIn t k)) ≡ true
+      go k (kept _) q = q
+      go k (ended _ _ _ _) q = and-left (live (rowIn t k)) (ltb (rowIn t k .turn .0) n) q
+      go k (began _ _ _) q = q
 
   some-earlier : (t : Table) (es : List Event) → leavings (earlier n) t es ≤ leavings live t es
   unfolding leavings
   some-earlier t [] = omega arith
   some-earlier t (e ∷ es) =
       let step : cond (taken t e) (leaving (earlier n) t e) 0 ≤ cond (taken t e) (leaving live t e) 0 =
-      next-either t e (λ b u. cond b (leaving (earlier n) t e) 0 ≤ cond b (leaving live t e) 0)
-      (λ ok. part-leaves t e (who-leaves t e ok))
+      next-either t e
+      (λ b u. cond b (gone (earlier n) (t .rows) (u .rows)) 0 ≤ cond b (gone live (t .rows) (u .rows)) 0)
+      (part-leaves t e)
       (omega arith) in
       omega (arith, some-earlier (next jobs t e) es)
 

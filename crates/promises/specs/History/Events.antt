@@ -1,21 +1,21 @@
 -- Whole histories: which events are accepted, whom they list as woken, and which requests leave in their course.
 use Prim.Native.Nat.{ℕ, zero, suc, _≤_}
 use mathlib.Core.Bool.{Bool, true, false, cond, false≢true}
-use mathlib.Core.List.{List, []}
+use mathlib.Core.List.{List, [], _++_}
 use mathlib.Core.Path.{_≡_, refl, ap, _∙_}
-use borrow.Author.Tests.{eq-eqb, le-ltb}
+use borrow.Author.Tests.{le-ltb}
 use lib.ListN.{length}
 use Rattle.event.specs.declared.events.Event.{Event}
-use Rattle.event.specs.declared.events.Event.the-variants.{Beat, Open, Ask, Release, Complete}
-use Rattle.laws.specs.Cases.{first, keepUnless, leaves, outcome, unless}
+use Rattle.laws.specs.Cases.{Case, first, keepUnless, leaves, outcome, unless}
 use Rattle.laws.specs.Front.{over}
 use Rattle.event.specs.Limits.{jobs}
 use Rattle.arbiter.specs.Meaning.{accepted, answer, listed, next, said, wakes}
-use Rattle.arbiter.specs.Refusals.{cases}
+use Rattle.arbiter.specs.Refusals.{applies, calling, cases, listCases}
+use Rattle.event.specs.Events.{about, asked, jobOf, setOf, tickOf}
+use Rattle.event.specs.Refusals.{casesBy}
 use Rattle.arbiter.specs.declared.table.Table.{Table}
 use Rattle.promises.specs.Kept.Words.{Accepts}
-use Rattle.promises.specs.Kept.Accepted.{complete-acts}
-use Rattle.promises.specs.History.Words.{isFine, taken, lists, Leaves, none, one}
+use Rattle.promises.specs.History.Words.{isFine, lists, taken}
 
 -- ---- What an event leaves, accepted or not
 
@@ -38,24 +38,19 @@ module _ (t : Table) (e : Event) where
       go zero h = refl
       go (suc k) h = absurd (false≢true h)
 
--- ---- Who leaves
-
-pub who-leaves : (t : Table) (e : Event) → Accepts jobs t e → Leaves t e
-who-leaves t (Beat tick) ok = none (λ f. refl)
-who-leaves t (Open j tick s) ok = none (λ f. refl)
-who-leaves t (Ask j tick s) ok = none (λ f. refl)
-who-leaves t (Release j tick s) ok = none (λ f. refl)
-who-leaves t (Complete j tick) ok = one j (complete-acts jobs t j tick ok) (eq-eqb j j refl) (λ f. refl)
-
 -- ---- What is listed is what a lent list that is long enough holds at its front
 
 -- such a list is never too short
 first-long : (n : ℕ) (t : Table) (e : Event) → jobs ≤ n → first (cases n t e) ≡ first (cases jobs t e)
-first-long n t (Beat tick) h = refl
-first-long n t (Open j tick s) h = refl
-first-long n t (Ask j tick s) h = refl
-first-long n t (Release j tick s) h = refl
-first-long n t (Complete j tick) h = rw (le-ltb n jobs h)
+unfolding first
+first-long n t e h = go (about e .wakes)
+  where
+    rest : List Case
+    rest = casesBy (applies t (calling (jobOf e) (tickOf e) (setOf e))) (asked (about e))
+
+    go : (w : Bool) → first (cond w (listCases n) [] ++ rest) ≡ first (cond w (listCases jobs) [] ++ rest)
+    go true = rw (le-ltb n jobs h)
+    go false = refl
 
 pub listed-front : (t : Table) (e : Event) (out : List ℕ) → jobs ≤ length out → listed t e out ≡ over (lists t e) out
 unfolding answer outcome leaves listed over

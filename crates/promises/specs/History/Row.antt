@@ -103,7 +103,7 @@ module _ {T n j : ℕ} {t : Table} (b : Bears T n j t) where
     pub bears-after : Bears T n j (accepted t e)
     bears-after =
         record {
-          along = along-accepted (b .along) e;
+          along = along-accepted (b .along) e ok;
           some = b .some;
           turn = ap (λ (r : Row). r .turn .0) row-after
               ∙ ap (λ (r : Row). r .turn .0) (swept-keeps (t .tokens) after (rowIn t j)) ∙ b .turn;

@@ -2,10 +2,8 @@
 use Prim.Native.Nat.{ℕ}
 use mathlib.Core.Bool.{Bool, true, false, _&&_}
 use mathlib.Core.Path.{_≡_, refl, sym, ap, _∙_}
-use borrow.Author.Tests.{eqb-true}
 use lib.Dec.{eqb}
 use Rattle.event.specs.declared.events.Event.{Event}
-use Rattle.event.specs.declared.events.Event.the-variants.{Beat, Open, Ask, Release, Complete}
 use Rattle.laws.specs.Bools.{bit}
 use Rattle.laws.specs.Lists.{count}
 use Rattle.rows.specs.InLine.{listed-once}
@@ -18,7 +16,7 @@ use Rattle.event.specs.Events.{names}
 use Rattle.promises.specs.History.Words.{Bears}
 use Rattle.promises.specs.History.Row.{bears-after, lives}
 use Rattle.promises.specs.Kept.Words.{Accepts}
-use Rattle.promises.specs.Kept.Accepted.{actor-rests, ask-acts, complete-acts, idle-rests, next-accepted, open-idle, release-acts}
+use Rattle.promises.specs.Kept.Accepted.{named-rests, next-accepted}
 use Rattle.promises.specs.Kept.Woken.{wakes-woken}
 use Rattle.arbiter.specs.Sound.{rowIn}
 
@@ -28,20 +26,12 @@ module _ (t : Table) where
   abbrev waits : ℕ → Bool
   waits j = waiting (t .tokens) (t .rows) (rowIn t j)
 
-  -- a job that waits is another than one that does not
-  apart : (i j : ℕ) → waits i ≡ false → waits j ≡ true → eqb i j ≡ false
-  apart i j awake w = go (eqb i j) refl
-    where
-      go : (b : Bool) → eqb i j ≡ b → b ≡ false
-      go true q = sym w ∙ ap waits (sym (eqb-true i j q)) ∙ awake
-      go false q = refl
-
   waits-unnamed : (j : ℕ) → waits j ≡ true → (e : Event) → Accepts jobs t e → names j e ≡ false
-  waits-unnamed j w (Beat tick) ok = refl
-  waits-unnamed j w (Open i tick s) ok = apart i j (idle-rests t i (open-idle jobs t i tick s ok)) w
-  waits-unnamed j w (Ask i tick s) ok = apart i j (actor-rests (ask-acts jobs t i tick s ok)) w
-  waits-unnamed j w (Release i tick s) ok = apart i j (actor-rests (release-acts jobs t i tick s ok)) w
-  waits-unnamed j w (Complete i tick) ok = apart i j (actor-rests (complete-acts jobs t i tick ok)) w
+  waits-unnamed j w e ok = go (names j e) refl
+    where
+      go : (b : Bool) → names j e ≡ b → b ≡ false
+      go true q = sym w ∙ named-rests jobs t e ok j q
+      go false q = refl
 
 -- ---- Who is listed
 

@@ -3,21 +3,15 @@ use Prim.Native.Nat.{ℕ, _+_, _≤_, _<_}
 use mathlib.Core.Bool.{Bool, true, false, cond}
 use mathlib.Core.List.{List, [], _∷_}
 use mathlib.Core.Path.{_≡_}
-use lib.Dec.{eqb}
 use Rattle.event.specs.declared.events.Event.{Event}
-use Rattle.event.specs.declared.events.Event.the-variants.{Beat, Open, Ask, Release, Complete}
-use Rattle.laws.specs.Bools.{bit}
+use Rattle.laws.specs.Lists.{gone}
 use Rattle.laws.specs.Cases.{Outcome, refused, fine}
 use Rattle.event.specs.Limits.{jobs}
-use Rattle.rows.specs.Order.{openingOf}
 use Rattle.rows.specs.declared.row.Row.{Row}
 use Rattle.arbiter.specs.Meaning.{answer, next, wakes}
 use Rattle.arbiter.specs.declared.table.Table.{Table}
-use Rattle.promises.specs.Kept.Words.{Acts}
 use Rattle.arbiter.specs.Sound.{rowIn}
 use lib.ListN.{length}
-
--- ---- Definitions
 
 -- an answer is no refusal
 abbrev pub isFine : {A : Type 0} → Outcome A → Bool
@@ -32,21 +26,9 @@ taken t e = isFine (answer jobs t e)
 abbrev pub lists : Table → Event → List ℕ
 lists t e = cond (taken t e) (wakes t e) []
 
--- an event names job j
-abbrev pub names : ℕ → Event → Bool
-names j (Beat tick) = false
-names j (Open i tick s) = eqb i j
-names j (Ask i tick s) = eqb i j
-names j (Release i tick s) = eqb i j
-names j (Complete i tick) = eqb i j
-
--- how many requests whose row passes f leave by an accepted event: by a completion its own, by no other event any
+-- how many rows pass f before an event and not after it
 abbrev pub leaving : (Row → Bool) → Table → Event → ℕ
-leaving f t (Beat tick) = 0
-leaving f t (Open j tick s) = 0
-leaving f t (Ask j tick s) = 0
-leaving f t (Release j tick s) = 0
-leaving f t (Complete j tick) = bit (f (rowIn t j))
+leaving f t e = gone f (t .rows) (next jobs t e .rows)
 
 -- how many requests whose row passes f leave in the course of events: `leavings live` are all accepted completions
 unfoldable pub leavings : (Row → Bool) → Table → List Event → ℕ
@@ -58,13 +40,6 @@ unfoldable pub heeded : Table → List Event → List Event
 heeded t [] = []
 heeded t (e ∷ es) = cond (taken t e) (e ∷ heeded (next jobs t e) es) (heeded (next jobs t e) es)
 
--- ---- Who leaves
-
--- by an accepted event no request leaves, or that of the job which it names, and which may act
-pub data Leaves (t : Table) (e : Event) : Type 0 where
-  none : ((f : Row → Bool) → leaving f t e ≡ 0) → Leaves t e
-  one : (i : ℕ) → Acts t i → names i e ≡ true → ((f : Row → Bool) → leaving f t e ≡ bit (f (rowIn t i))) → Leaves t e
-
 -- ---- What every table of a history keeps
 
 -- it has a row for each job and T tokens, and turn n has been given
@@ -72,14 +47,6 @@ pub record Along (T n : ℕ) (t : Table) : Type 0 where
   pub wide : length (t .rows) ≡ jobs
   pub tokens : t .tokens ≡ T
   pub given : n ≤ t .last .0
-
--- ---- The law
-
--- a test by what a row was opened with passes only live rows of lower turn than n
-pub record Lower (n : ℕ) (f : Row → Bool) : Type 0 where
-  pub by-opening : (r : Row) → f (openingOf r) ≡ f r
-  pub idle-fails : (r : Row) → r .turn .0 ≡ 0 → f r ≡ false
-  pub late-fails : (r : Row) → n ≤ r .turn .0 → f r ≡ false
 
 -- the row of job j is that of the request of turn n, a turn that has been given
 pub record Bears (T n j : ℕ) (t : Table) : Type 0 where

@@ -1,41 +1,62 @@
 -- What is known of an accepted event: no case applies, the table was sound, and whoever acts may act.
 use Prim.Native.Nat.{ℕ, _<_}
-use mathlib.Core.Bool.{false, not}
-use mathlib.Core.List.{List}
-use mathlib.Core.Path.{_≡_, refl, sym, _∙_}
+use mathlib.Core.Bool.{Bool, true, false, cond, not, false≢true}
+use mathlib.Core.List.{List, [], _++_}
+use mathlib.Core.Path.{_≡_, refl, sym, subst, _∙_}
 use native.Mathlib.Nat.{le-of-eq}
-use borrow.Author.Tests.{le-ltb, leb-false, ltb-true, ltb-false, not-false}
+use native.Mathlib.Omega.{arith}
+use borrow.Author.Tests.{eqb-true, le-ltb, leb-false, ltb-true, ltb-false, not-false}
 use lib.Arith.{le-zero}
-use lib.Dec.{leb, ltb}
+use lib.Dec.{eqb}
 use Rattle.event.specs.declared.clock.Tick.{Tick}
 use Rattle.event.specs.declared.events.Event.{Event}
-use Rattle.event.specs.declared.events.Event.the-variants.{Beat, Open, Ask, Release, Complete}
-use Rattle.laws.specs.Cases.{Case, case, first, fine, outcome, leaves}
+use Rattle.event.specs.declared.events.Event.the-variants.{Open}
+use Rattle.event.specs.Events.{Role, hasJob, names, about, actor, asked, jobOf, nobody, opener, setOf, tickOf}
+use Rattle.event.specs.RefusalLaws.{cases-positive}
+use Rattle.event.specs.Refusals.{casesBy}
+use Rattle.event.specs.declared.refusal.Refusal.{Refusal}
+use Rattle.laws.specs.Cases.{Case, positive, case, first, fine, outcome, leaves}
+use Rattle.laws.specs.BoolLaws.{and-left, and-right}
 use Rattle.laws.specs.CaseLaws.{clear}
 use Rattle.event.specs.Limits.{jobs}
-use Rattle.rows.specs.Order.{live, token, waiting}
+use Rattle.rows.specs.Order.{waiting}
 use Rattle.rows.specs.Turns.{waiting-reads}
 use Rattle.arbiter.specs.Meaning.{accepted, answer, next, said}
-use Rattle.arbiter.specs.Refusals.{cases}
-use Rattle.arbiter.specs.RefusalLaws.{cases-ascend}
+use Rattle.arbiter.specs.Refusals.{applies, calling, cases, listCases}
 use Rattle.arbiter.specs.Sound.{sound, rowIn}
 use Rattle.arbiter.specs.declared.table.Table.{Table}
 use Rattle.promises.specs.Sound.Words.{SoundTable}
 use Rattle.promises.specs.Sound.Tests.{table-sound}
 use Rattle.promises.specs.Kept.Words.{Accepts, Acts}
 
+-- all numbers of an event's cases are positive
+pub event-positive : (n : ℕ) (t : Table) (e : Event) → positive (cases n t e) ≡ true
+event-positive n t e = go (about e .wakes)
+  where
+    rest : positive (casesBy (applies t (calling (jobOf e) (tickOf e) (setOf e))) (asked (about e))) ≡ true
+    rest = cases-positive (applies t (calling (jobOf e) (tickOf e) (setOf e))) (asked (about e))
+
+    go :
+        (b : Bool) →
+        positive (cond b (listCases n) [] ++ casesBy (applies t (calling (jobOf e) (tickOf e) (setOf e))) (asked (about e))) ≡ true
+    go true = rest
+    go false = rest
+
 -- of an accepted event no case applies
 pub passed : (n : ℕ) (t : Table) (e : Event) → Accepts n t e → (k : ℕ) → case k (cases n t e) ≡ false
-passed n t e acc k = clear 0 k (cases n t e) (cases-ascend n t e) acc
+passed n t e acc k = clear k (cases n t e) (event-positive n t e) acc
 
 -- case 3 tests the table
 pub case-unsound : (n : ℕ) (t : Table) (e : Event) → case 3 (cases n t e) ≡ not (sound t)
 unfolding case
-case-unsound n t (Beat tick) = refl
-case-unsound n t (Open j tick s) = refl
-case-unsound n t (Ask j tick s) = refl
-case-unsound n t (Release j tick s) = refl
-case-unsound n t (Complete j tick) = refl
+case-unsound n t e = go (about e .wakes)
+  where
+    go :
+        (b : Bool) →
+        case 3 (cond b (listCases n) [] ++ casesBy (applies t (calling (jobOf e) (tickOf e) (setOf e))) (asked (about e)))
+        ≡ not (sound t)
+    go true = refl
+    go false = refl
 
 -- the table was sound
 pub was-sound : (n : ℕ) (t : Table) (e : Event) → Accepts n t e → SoundTable t
@@ -53,53 +74,68 @@ unfolding next
 next-accepted n t e ok = leaves-new (cases n t e) t (accepted t e) ok
 
 pub next-tokens : (n : ℕ) (t : Table) (e : Event) → Accepts n t e → next n t e .tokens ≡ t .tokens
-next-tokens n t e ok = rw (next-accepted n t e ok) (go e)
-  where
-    go : (e : Event) → accepted t e .tokens ≡ t .tokens
-    go (Beat tick) = refl
-    go (Open j tick s) = refl
-    go (Ask j tick s) = refl
-    go (Release j tick s) = refl
-    go (Complete j tick) = refl
+next-tokens n t e ok = rw (next-accepted n t e ok)
 
 pub answer-accepted : (n : ℕ) (t : Table) (e : Event) → Accepts n t e → answer n t e ≡ fine (said t e)
 unfolding answer outcome
 answer-accepted n t e ok = rw ok
 
--- ---- Who acts
+-- ---- Whose an accepted event is
 
-acts :
-    {t : Table} {j : ℕ} → leb jobs j ≡ false → not (live (rowIn t j)) ≡ false →
-    not (token (t .tokens) (t .rows) (rowIn t j .turn .0)) ≡ false → ltb 0 (rowIn t j .asked) ≡ false → Acts t j
-acts a b c d = record {
-  below = leb-false _ _ a;
-  alive = ltb-true _ _ (not-false _ b);
-  has = ltb-true _ _ (not-false _ c);
-  nothing = le-zero (ltb-false _ _ d);
-}
+-- what the cases of an event say of its job, once it is known whose the event is
+module _ (n : ℕ) (t : Table) (e : Event) (ok : Accepts n t e) where
+  abbrev j : ℕ
+  j = jobOf e
 
-module _ (n : ℕ) (t : Table) (j : ℕ) (tick : Tick) where
-  pub ask-acts : (s : ℕ) → Accepts n t (Ask j tick s) → Acts t j
+  -- the case numbered k, for an event of this role, set and own refusals
+  abbrev caseBy : Bool → Role → Bool → List Refusal → ℕ → Bool
+  caseBy w r s own k =
+      case k
+      (cond w (listCases n) []
+      ++ casesBy (applies t (calling j (tickOf e) (setOf e))) (asked (record { number = 0; role = r; set = s; wakes = w; own = own })))
+
+  -- whoever acts may act
+  pub acts : about e .role ≡ actor → Acts t j
   unfolding case
-  ask-acts s ok = let off = passed n t (Ask j tick s) ok in acts (off 4) (off 8) (off 9) (off 10)
+  acts is = go (about e .wakes) (about e .role) (about e .set) (about e .own) is (passed n t e ok)
+    where
+      go : (w : Bool) (r : Role) (s : Bool) (own : List Refusal) → r ≡ actor → ((k : ℕ) → caseBy w r s own k ≡ false) → Acts t j
+      go w nobody s own q off = let z : _≡_ {A = ℕ} 0 1 = cc in absurd (omega arith)
+      go w opener s own q off = let z : _≡_ {A = ℕ} 0 1 = cc in absurd (omega arith)
+      go true actor s own q off =
+          record {
+            below = leb-false _ _ (off 4);
+            alive = ltb-true _ _ (not-false _ (off 8));
+            has = ltb-true _ _ (not-false _ (off 9));
+            nothing = le-zero (ltb-false _ _ (off 10));
+          }
+      go false actor s own q off =
+          record {
+            below = leb-false _ _ (off 4);
+            alive = ltb-true _ _ (not-false _ (off 8));
+            has = ltb-true _ _ (not-false _ (off 9));
+            nothing = le-zero (ltb-false _ _ (off 10));
+          }
 
-  pub release-acts : (s : ℕ) → Accepts n t (Release j tick s) → Acts t j
+  -- whoever opens is a job without a request
+  pub comes : about e .role ≡ opener → (j < jobs) × (rowIn t j .turn .0 ≡ 0)
   unfolding case
-  release-acts s ok = let off = passed n t (Release j tick s) ok in acts (off 4) (off 8) (off 9) (off 10)
+  comes is = go (about e .wakes) (about e .role) (about e .set) (about e .own) is (passed n t e ok)
+    where
+      go :
+          (w : Bool) (r : Role) (s : Bool) (own : List Refusal) → r ≡ opener → ((k : ℕ) → caseBy w r s own k ≡ false) →
+          (j < jobs) × (rowIn t j .turn .0 ≡ 0)
+      go w nobody s own q off = let z : _≡_ {A = ℕ} 0 1 = cc in absurd (omega arith)
+      go w actor s own q off = let z : _≡_ {A = ℕ} 0 1 = cc in absurd (omega arith)
+      go true opener s own q off = (leb-false _ _ (off 4), le-zero (ltb-false _ _ (off 7)))
+      go false opener s own q off = (leb-false _ _ (off 4), le-zero (ltb-false _ _ (off 7)))
 
-  pub complete-acts : Accepts n t (Complete j tick) → Acts t j
-  unfolding case
-  complete-acts ok = let off = passed n t (Complete j tick) ok in acts (off 4) (off 8) (off 9) (off 10)
+module _ (n : ℕ) (t : Table) (j : ℕ) (tick : Tick) (s : ℕ) (ok : Accepts n t (Open j tick s)) where
+  pub open-below : j < jobs
+  open-below = comes n t (Open j tick s) ok refl .0
 
-  -- who opens is a job without a request
-  module _ (s : ℕ) (ok : Accepts n t (Open j tick s)) where
-    pub open-below : j < jobs
-    unfolding case
-    open-below = leb-false jobs j (passed n t (Open j tick s) ok 4)
-
-    pub open-idle : rowIn t j .turn .0 ≡ 0
-    unfolding case
-    open-idle = le-zero (ltb-false 0 (rowIn t j .turn .0) (passed n t (Open j tick s) ok 7))
+  pub open-idle : rowIn t j .turn .0 ≡ 0
+  open-idle = comes n t (Open j tick s) ok refl .1
 
 -- neither waits
 pub idle-rests : (t : Table) (j : ℕ) → rowIn t j .turn .0 ≡ 0 → waiting (t .tokens) (t .rows) (rowIn t j) ≡ false
@@ -107,3 +143,17 @@ idle-rests t j e = rw (le-ltb 0 (rowIn t j .turn .0) (le-of-eq e))
 
 pub actor-rests : {t : Table} {j : ℕ} → Acts t j → waiting (t .tokens) (t .rows) (rowIn t j) ≡ false
 actor-rests {t} {j} a = waiting-reads (t .tokens) (t .rows) (rowIn t j) (a .alive) .fails .1 (a .has, a .nothing)
+
+-- so whoever an accepted event names does not wait
+pub named-rests :
+    (n : ℕ) (t : Table) (e : Event) → Accepts n t e → (k : ℕ) → names k e ≡ true →
+    waiting (t .tokens) (t .rows) (rowIn t k) ≡ false
+named-rests n t e ok k named =
+    subst (λ (i : ℕ). waiting (t .tokens) (t .rows) (rowIn t i) ≡ false)
+    (eqb-true (jobOf e) k (and-right (hasJob (about e .role)) (eqb (jobOf e) k) named))
+    (go (about e .role) refl (and-left (hasJob (about e .role)) (eqb (jobOf e) k) named))
+  where
+    go : (r : Role) → about e .role ≡ r → hasJob r ≡ true → waiting (t .tokens) (t .rows) (rowIn t (jobOf e)) ≡ false
+    go nobody is some = absurd (false≢true some)
+    go opener is some = idle-rests t (jobOf e) (comes n t e ok is .1)
+    go actor is some = actor-rests (acts n t e ok is)

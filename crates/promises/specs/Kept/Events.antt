@@ -26,7 +26,7 @@ use Rattle.rows.specs.declared.row.Row.{Row}
 use Rattle.arbiter.specs.Meaning.{accepted, askedRow, moved, openedRow, releasedRow, timeAt}
 use Rattle.arbiter.specs.declared.table.Table.{Table}
 use Rattle.promises.specs.Kept.Words.{Accepts, Acts, Asked, Decided, Swept, grants, waits, Alike, Clearer, Onward}
-use Rattle.promises.specs.Kept.Accepted.{ask-acts, complete-acts, open-idle, passed, release-acts, was-sound}
+use Rattle.promises.specs.Kept.Accepted.{acts, open-idle, passed, was-sound}
 use Rattle.promises.specs.Kept.Decisions.{asks, sweeps}
 use Rattle.promises.specs.Kept.Rows.{alike-clearer, alike-kept, alike-opened, alike-self, alike-settled, carried, decided, decided-alike}
 use Rattle.arbiter.specs.Sound.{rowIn}
@@ -253,12 +253,12 @@ accepted-kept n t (Open j tick s) ok =
     (not-false _ (off 12)) (omega (arith, p .last, eqb-false (t .last .0) (2 ^ 63 - 1) (off 16)))
 accepted-kept n t (Ask j tick s) ok =
     let off = passed n t (Ask j tick s) ok in
-    asked-kept t tick (was-sound n t (Ask j tick s) ok) (ltb-false _ _ (off 6)) j s (ask-acts n t j tick s ok)
+    asked-kept t tick (was-sound n t (Ask j tick s) ok) (ltb-false _ _ (off 6)) j s (acts n t (Ask j tick s) ok refl)
     (omega (arith, eqb-false s 0 (off 11))) (not-false _ (off 13)) (off 14)
 accepted-kept n t (Release j tick s) ok =
     let off = passed n t (Release j tick s) ok in
-    released-kept t tick (was-sound n t (Release j tick s) ok) (ltb-false _ _ (off 6)) j s (release-acts n t j tick s ok .alive)
+    released-kept t tick (was-sound n t (Release j tick s) ok) (ltb-false _ _ (off 6)) j s (acts n t (Release j tick s) ok refl .alive)
 accepted-kept n t (Complete j tick) ok =
     let off = passed n t (Complete j tick) ok in
     completed-kept t tick (was-sound n t (Complete j tick) ok) (ltb-false _ _ (off 6)) j
-    (live-within (t .rows) j (complete-acts n t j tick ok .alive))
+    (live-within (t .rows) j (acts n t (Complete j tick) ok refl .alive))

@@ -23,7 +23,7 @@ use Rattle.arbiter.specs.Meaning.{accepted, answer, askedRow, next, openedRow, 
 use Rattle.arbiter.specs.Refusals.{cases}
 use Rattle.arbiter.specs.declared.table.Table.{Table}
 use Rattle.promises.specs.Kept.Words.{Accepts, Asked, Decided, grants, waits}
-use Rattle.promises.specs.Kept.Accepted.{answer-accepted, ask-acts, next-accepted, open-below, passed, release-acts, was-sound}
+use Rattle.promises.specs.Kept.Accepted.{acts, answer-accepted, next-accepted, open-below, passed, was-sound}
 use Rattle.promises.specs.Kept.Decisions.{asks}
 use Rattle.promises.specs.Kept.Events.{accepted-kept}
 use Rattle.arbiter.specs.Sound.{rowIn}
@@ -38,7 +38,7 @@ module _ (n : ℕ) (t : Table) (j : ℕ) (tick : Tick) (s : ℕ) (ok : Accepts n
   -- what it leaves of its row
   pub asked : Asked t (timeAt t (tick .0)) s (rowIn t j) (rowIn (accepted t (Ask j tick s)) j)
   asked =
-      let a = ask-acts n t j tick s ok in
+      let a = acts n t (Ask j tick s) ok refl in
       rw (getD-set-same (t .rows) j (askedRow t (rowIn t j) (timeAt t (tick .0)) s) idle (live-within (t .rows) j (a .alive)))
       (asks t (timeAt t (tick .0)) s (rowIn t j) (a .nothing))
 
@@ -98,7 +98,7 @@ module _ (n : ℕ) (t : Table) (j : ℕ) (tick : Tick) (s : ℕ) (ok : Accepts n
   released : rowIn (next n t (Release j tick s)) j ≡ releasedRow (rowIn t j) s
   released =
       ap (λ (u : Table). rowIn u j) (next-accepted n t (Release j tick s) ok)
-      ∙ getD-set-same (t .rows) j (releasedRow (rowIn t j) s) idle (live-within (t .rows) j (release-acts n t j tick s ok .alive))
+      ∙ getD-set-same (t .rows) j (releasedRow (rowIn t j) s) idle (live-within (t .rows) j (acts n t (Release j tick s) ok refl .alive))
 
   -- a release leaves the declared set whole
   pub release-keeps-declared : rowIn (next n t (Release j tick s)) j .declared ≡ rowIn t j .declared
@@ -114,7 +114,7 @@ module _ (n : ℕ) (t : Table) (j : ℕ) (tick : Tick) (s : ℕ) (ok : Accepts n
       let r = rowIn t j in
       let e = Release j tick s in
       let was-held = not-false (inside s (r .held)) (passed n t e ok 15) in
-      let declared = was-sound n t e ok .rows j .lives (release-acts n t j tick s ok .alive) .held-declared in
+      let declared = was-sound n t e ok .rows j .lives (acts n t (Release j tick s) ok refl .alive) .held-declared in
       rw released (
         ap not (inside-trans x s (r .declared) part (inside-trans s (r .held) (r .declared) was-held declared)),
         meets-reads x (without (r .held) s) .fails .1

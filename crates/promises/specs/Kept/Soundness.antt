@@ -1,27 +1,33 @@
 -- Soundness is kept: every table that calls lead to from an accepted start is sound, so none is ever refused as 3.
 use Prim.Native.Nat.{ℕ, zero, suc, _^_, _<_}
-use mathlib.Core.Bool.{true, not, true≢false}
-use mathlib.Core.List.{List, [], _∷_}
+use mathlib.Core.Bool.{Bool, true, false, cond, not, true≢false}
+use mathlib.Core.List.{List, [], _∷_, _++_}
 use mathlib.Core.Path.{_≡_, refl, sym, ap, _∙_}
 use native.Mathlib.Omega.{arith}
 use borrow.Author.Tests.{not-false}
-use lib.ListN.{replicate}
+use lib.Dec.{ltb}
+use lib.ListN.{length, replicate}
 use Rattle.event.specs.declared.events.Event.{Event}
-use Rattle.laws.specs.Cases.{Case, ascending, case, first, leaves, outcome, refused, fine, keepUnless}
-use Rattle.laws.specs.CaseLaws.{acceptance-tells, clear, first-applies, refusal-tells}
+use Rattle.laws.specs.Cases.{Case, case, first, leaves, outcome, refused, fine, keepUnless}
+use Rattle.laws.specs.CaseLaws.{acceptance-tells, clear, refusal-tells}
 use Rattle.rows.specs.Line.{rowOf}
 use Rattle.event.specs.Limits.{jobs}
 use Rattle.rows.specs.Order.{idle}
 use Rattle.rows.specs.declared.row.Row.{Row}
 use Rattle.arbiter.specs.Answers as Answers
-use Rattle.arbiter.specs.Meaning.{accepted, answer, freshTable, next, noTable, overdue, report, run, startAnswer, startTable}
-use Rattle.arbiter.specs.Refusals.{cases, overdueCases, reportCases, startCases}
-use Rattle.arbiter.specs.RefusalLaws.{cases-ascend, overdue-ascends, report-ascends, start-ascends}
+use Rattle.arbiter.specs.Meaning.{accepted, answer, freshTable, late, next, noTable, overdue, report, reported, run, said, startAnswer, startTable}
+use Rattle.arbiter.specs.Refusals.{Call, calling, applies, cases, listCases, startCases}
+use Rattle.event.specs.Events.{about, asked, jobOf, setOf, tickOf}
+use Rattle.event.specs.Clock.{clockRefusals}
+use Rattle.event.specs.RefusalLaws.{first-named}
+use Rattle.event.specs.Refusals.{casesBy, refusing}
+use Rattle.event.specs.declared.refusal.Refusal.{Refusal}
+use Rattle.event.specs.declared.refusal.Refusal.the-variants.{NoSuchJob, NotLive, ShortList, UnsoundTable}
 use Rattle.laws.specs.Lists.{holds}
-use Rattle.arbiter.specs.Sound.{ranges, sound}
+use Rattle.arbiter.specs.Sound.{rowIn, ranges, sound}
 use Rattle.arbiter.specs.declared.table.Table.{Table}
 use Rattle.promises.specs.Kept.Words.{Accepts, NeverUnsound}
-use Rattle.promises.specs.Kept.Accepted.{case-unsound, leaves-new}
+use Rattle.promises.specs.Kept.Accepted.{leaves-new}
 use Rattle.promises.specs.Kept.Events.{accepted-kept}
 use Rattle.promises.specs.Sound.Tests.{idle-sound, ranges-in, sound-table}
 
@@ -76,7 +82,7 @@ module _ (T R limit : ℕ) (started : startAnswer T R limit ≡ fine Answers.say
 
   pub start-ranges : holds (ranges T R limit) ≡ true
   unfolding case
-  start-ranges = not-false (holds (ranges T R limit)) (clear 0 1 (startCases T R limit) (start-ascends T R limit) unrefused)
+  start-ranges = not-false (holds (ranges T R limit)) (clear 1 (startCases T R limit) refl unrefused)
 
   pub start-fresh : (tick : ℕ) → startTable T R tick limit ≡ freshTable T R tick limit
   unfolding startTable
@@ -95,21 +101,35 @@ run-sound T R tick limit h ok es = events-sound (startTable T R tick limit) es (
 
 -- ---- Refusal 3
 
--- a refusal is the number of a case that applies
-refused-by :
-    {A : Type 0} (k : ℕ) (cs : List Case) (a : A) → ascending cs ≡ true → outcome cs a ≡ refused (suc k) → case (suc k) cs ≡ true
-refused-by {A} k cs a up e =
-    let found = refusal-tells {B = A} cs a (suc k) e .0 in
-    rw found at (first-applies 0 cs up (rw found (omega arith)))
+-- what is refused as 3 was unsound
+refused-unsound :
+    {A : Type 0} (a : A) (w : Bool) (n : ℕ) (t : Table) (c : Call) (rs : List Refusal) →
+    outcome (cond w (listCases n) [] ++ casesBy (applies t c) rs) a ≡ refused 3 → not (sound t) ≡ true
+unfolding first
+refused-unsound {A} a w n t c rs e = go w (ltb n jobs) (refusal-tells {B = A} _ a 3 e .0)
+  where
+    rest : first (casesBy (applies t c) rs) ≡ 3 → not (sound t) ≡ true
+    rest = first-named (applies t c) rs UnsoundTable
+
+    go :
+        (w b : Bool) → first (cond w (refusing ShortList b ∷ []) [] ++ casesBy (applies t c) rs) ≡ 3 → not (sound t) ≡ true
+    go true true q = absurd (omega (arith, q))
+    go true false q = rest q
+    go false b q = rest q
 
 -- none on a sound table is
 pub never-unsound : (t : Table) → sound t ≡ true → NeverUnsound t
-unfolding answer report overdue case
-never-unsound t p = record {
-  event = λ n e f. true≢false (sym (refused-by 2 (cases n t e) _ (cases-ascend n t e) f) ∙ case-unsound n t e ∙ ap not p);
-  report = λ j f. true≢false (sym (refused-by 2 (reportCases t j) _ (report-ascends t j) f) ∙ ap not p);
-  overdue = λ n tick f. true≢false (sym (refused-by 2 (overdueCases n t tick) _ (overdue-ascends n t tick) f) ∙ ap not p);
-}
+unfolding answer report overdue
+never-unsound t p =
+    record {
+      event = λ n e f. true≢false (sym (refused-unsound (said t e) (about e .wakes) n t (calling (jobOf e) (tickOf e) (setOf e)) (asked (about e)) f) ∙ ap not p);
+      report = λ j f.
+          true≢false
+          (sym (refused-unsound (reported t (rowIn t j)) false 0 t (calling j 0 0) (UnsoundTable ∷ NoSuchJob ∷ NotLive ∷ []) f) ∙ ap not p);
+      overdue = λ n tick f.
+          true≢false
+          (sym (refused-unsound (length (late t tick)) true n t (calling 0 tick 0) (UnsoundTable ∷ clockRefusals) f) ∙ ap not p);
+    }
 
 -- so none that events lead to from an accepted start is
 pub run-never-unsound :

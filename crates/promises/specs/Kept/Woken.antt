@@ -1,82 +1,75 @@
 -- Whom an accepted event wakes, and what becomes of a wait.
-use Prim.Native.Nat.{ℕ, _<_}
+use Prim.Native.Nat.{ℕ, _<_, _≤_}
 use mathlib.Core.Bool.{Bool, true, false, cond, not, _&&_, and-not-self, true≢false, false≢true}
 use mathlib.Core.List.{List, [], _∷_, List·Memᴰ, List·Memᴰ·cases-cons, List·Memᴰ·not-nil}
 use mathlib.Core.Logic.{_⊎_, inl, inr}
 use mathlib.Core.Path.{_≡_, refl, sym, ap, subst, _∙_}
-use native.Mathlib.Decide.{decLt, ℕ-discrete}
+use native.Mathlib.Decide.{decLt}
 use native.Mathlib.Omega.{arith}
-use borrow.Author.Tests.{eq-eqb, not-true}
+use borrow.Author.Tests.{eqb-false, not-true}
+use lib.Dec.{eqb}
 use lib.ListN.{getD, set}
 use lib.Seq.{getD-set-other}
 use Rattle.event.specs.declared.clock.Tick.{Tick}
 use Rattle.event.specs.declared.events.Event.{Event}
-use Rattle.event.specs.declared.events.Event.the-variants.{Beat, Open, Ask, Release, Complete}
+use Rattle.event.specs.declared.events.Event.the-variants.{Release}
 use Rattle.laws.specs.BoolLaws.{and-right}
 use Rattle.rows.specs.LineLaws.{Each, each-head, each-tail}
-use Rattle.rows.specs.Line.{keep, line}
+use Rattle.rows.specs.Line.{keep, line, rowOf}
 use Rattle.rows.specs.Order.{idle, waiting}
 use Rattle.rows.specs.SweepLaws.{row-settled}
-use Rattle.rows.specs.Sweep.{sweptRow, woken}
-use Rattle.rows.specs.Turns.{live-within, waiting-reads}
+use Rattle.rows.specs.Sweep.{settled, sweptRow, woken}
+use Rattle.rows.specs.Turns.{waiting-reads}
 use Rattle.rows.specs.declared.row.Row.{Row}
-use Rattle.arbiter.specs.Meaning.{accepted, askedRow, next, openedRow, releasedRow, timeAt, wakes}
+use Rattle.arbiter.specs.Meaning.{accepted, next, rowAfter, rowsWith, timeAt, wakes}
 use Rattle.arbiter.specs.declared.table.Table.{Table}
-use Rattle.event.specs.Events.{names}
-use Rattle.promises.specs.Kept.Words.{Accepts, Acts, Decided, Swept, waits, completes, Fate, same, acted, stayed}
-use Rattle.promises.specs.Kept.Accepted.{actor-rests, ask-acts, complete-acts, idle-rests, next-accepted, next-tokens, open-idle, release-acts, was-sound}
-use Rattle.promises.specs.Kept.Decisions.{asks, sweeps}
+use Rattle.event.specs.Events.{about, hasJob, jobOf, names, tickOf}
+use Rattle.promises.specs.Kept.Words.{Accepts, Decided, Swept, waits, Alike, Fate, same, acted, stayed}
+use Rattle.promises.specs.Kept.Accepted.{named-rests, next-accepted, next-tokens, was-sound}
+use Rattle.promises.specs.Kept.Changes.{alike-quiet}
+use Rattle.promises.specs.Kept.Decisions.{sweeps}
 use Rattle.promises.specs.Kept.Named.{next-kept}
-use Rattle.promises.specs.Kept.Rows.{alike-kept, alike-opened, alike-self, alike-settled, decided-alike, waiting-alike}
+use Rattle.promises.specs.Kept.Rows.{alike-settled, decided-alike, waiting-alike}
 use Rattle.arbiter.specs.Sound.{rowIn}
 use Rattle.promises.specs.Sound.Words.{SoundTable}
 use Rattle.promises.specs.Sound.Facts.{not-idle, turns-given}
 
 -- ---- What becomes of a row
 
--- where row j is set to r by an actor and keeps turn and declared set
-actor-fate :
-    (t : Table) (e : Event) (j : ℕ) (r : Row) → accepted t e .rows ≡ set (t .rows) j r → names j e ≡ true → Acts t j →
-    r .turn .0 ≡ rowIn t j .turn .0 → r .declared ≡ rowIn t j .declared → (k : ℕ) → Fate t e k
-actor-fate t e j r rows named a turn declared k = go (ℕ-discrete k j)
-  where
-    go : Dec (k ≡ j) → Fate t e k
-    go (yes q) = acted (rw q named) (rw q (actor-rests a))
-    go (no q) =
-        same (rw rows (getD-set-other (t .rows) j k r idle q))
-        (rw rows (alike-kept (t .rows) j r (rowIn t k .turn .0) (live-within (t .rows) j (a .alive)) turn declared))
+module _ (n : ℕ) (t : Table) (e : Event) (ok : Accepts n t e) (k : ℕ) where
+  -- an event writes no row but that of the job which it names
+  unwritten : names k e ≡ false → rowOf (rowsWith t e) k ≡ rowIn t k
+  unwritten = go (hasJob (about e .role))
+    where
+      row : Row
+      row = rowAfter t (timeAt t (tickOf e)) e (rowIn t (jobOf e))
 
-pub fate : (n : ℕ) (t : Table) (e : Event) → Accepts n t e → (k : ℕ) → Fate t e k
-fate n t (Beat tick) ok k = same refl alike-self
-fate n t (Open j tick s) ok k = go (ℕ-discrete k j)
-  where
-    p : SoundTable t
-    p = was-sound n t (Open j tick s) ok
+      go :
+          (b : Bool) → (b && eqb (jobOf e) k) ≡ false →
+          rowOf (cond b (set (t .rows) (jobOf e) row) (t .rows)) k ≡ rowIn t k
+      go true q = getD-set-other (t .rows) (jobOf e) k row idle (λ same. eqb-false (jobOf e) k q (sym same))
+      go false q = refl
 
-    was : rowIn t j .turn .0 ≡ 0
-    was = open-idle n t j tick s ok
+  pub fate : Fate t e k
+  fate = go (names k e) refl (about e .wakes) refl
+    where
+      given : rowIn t k .turn .0 ≤ t .last .0
+      given = turns-given (was-sound n t e ok) k
 
-    go : Dec (k ≡ j) → Fate t (Open j tick s) k
-    go (yes e) = acted (eq-eqb j k (sym e)) (rw e (idle-rests t j was))
-    go (no e) =
-        same (getD-set-other (t .rows) j k (openedRow t (timeAt t (tick .0)) s) idle e)
-        (alike-opened (t .rows) j (openedRow t (timeAt t (tick .0)) s) (rowIn t k .turn .0) (p .rows j .idles was)
-        (omega (arith, turns-given p k)))
-fate n t (Ask j tick s) ok k =
-    let a = ask-acts n t j tick s ok in
-    let said = asks t (timeAt t (tick .0)) s (rowIn t j) (a .nothing) in
-    actor-fate t (Ask j tick s) j (askedRow t (rowIn t j) (timeAt t (tick .0)) s) refl (eq-eqb j j refl) a (said .turn) (said .declared) k
-fate n t (Release j tick s) ok k =
-    actor-fate t (Release j tick s) j (releasedRow (rowIn t j) s) refl (eq-eqb j j refl) (release-acts n t j tick s ok) refl refl k
-fate n t (Complete j tick) ok k = go (ℕ-discrete k j)
-  where
-    go : Dec (k ≡ j) → Fate t (Complete j tick) k
-    go (yes e) = acted (eq-eqb j k (sym e)) (rw e (actor-rests (complete-acts n t j tick ok)))
-    go (no e) =
-        let left = set (t .rows) j idle in
-        stayed refl left
-        (row-settled (t .tokens) left k ∙ ap (sweptRow (t .tokens) left) (getD-set-other (t .rows) j k idle idle e))
-        (alike-settled (t .tokens) left (rowIn t k .turn .0))
+      go : (b : Bool) → names k e ≡ b → (w : Bool) → about e .wakes ≡ w → Fate t e k
+      go true q w loud = acted q (named-rests n t e ok k q)
+      go false q false quiet =
+          same (ap (λ (w : Bool). rowOf (cond w (settled (t .tokens) (rowsWith t e)) (rowsWith t e)) k) quiet ∙ unwritten q)
+          (alike-quiet n t e ok (rowIn t k .turn .0) given quiet)
+      go false q true loud =
+          let after : accepted t e .rows ≡ settled (t .tokens) (rowsWith t e) =
+          ap (λ (w : Bool). cond w (settled (t .tokens) (rowsWith t e)) (rowsWith t e)) loud in
+          stayed loud (rowsWith t e)
+          (ap (λ (rows : List Row). rowOf rows k) after
+          ∙ row-settled (t .tokens) (rowsWith t e) k
+          ∙ ap (sweptRow (t .tokens) (rowsWith t e)) (unwritten q))
+          (subst (λ (rows : List Row). Alike (rowsWith t e) rows (rowIn t k .turn .0)) (sym after)
+          (alike-settled (t .tokens) (rowsWith t e) (rowIn t k .turn .0)))
 
 -- ---- Who is woken
 
@@ -102,12 +95,12 @@ keep-none f [] none = refl
 keep-none f (j ∷ js) none =
     rw (each-head (λ k. f k ≡ false) j js none) (keep-none f js (each-tail (λ k. f k ≡ false) j js none))
 
--- nobody is woken but by a completion
-pub only-completions-wake :
-    (n : ℕ) (t : Table) (e : Event) → Accepts n t e → completes e ≡ false →
+-- nobody is woken but by an event that may wake others
+pub quiet-wakes-nobody :
+    (n : ℕ) (t : Table) (e : Event) → Accepts n t e → about e .wakes ≡ false →
     woken (t .tokens) (t .rows) (next n t e .rows) ≡ []
 unfolding woken
-only-completions-wake n t e ok other =
+quiet-wakes-nobody n t e ok other =
     let jobs = line (accepted t e .rows) in
     rw (next-accepted n t e ok) (keep-none _ jobs (λ i inside. go (getD jobs i 0) (fate n t e ok (getD jobs i 0))))
   where
@@ -124,16 +117,18 @@ only-completions-wake n t e ok other =
 pub release-wakes-nobody :
     (n : ℕ) (t : Table) (j : ℕ) (tick : Tick) (s : ℕ) → Accepts n t (Release j tick s) →
     woken (t .tokens) (t .rows) (next n t (Release j tick s) .rows) ≡ []
-release-wakes-nobody n t j tick s ok = only-completions-wake n t (Release j tick s) ok refl
+release-wakes-nobody n t j tick s ok = quiet-wakes-nobody n t (Release j tick s) ok refl
 
 -- the list of the woken is what it says, for every event: those who waited before and do not wait after
 pub wakes-woken :
     (n : ℕ) (t : Table) (e : Event) → Accepts n t e → wakes t e ≡ woken (t .tokens) (t .rows) (next n t e .rows)
-wakes-woken n t (Beat tick) ok = sym (only-completions-wake n t (Beat tick) ok refl)
-wakes-woken n t (Open j tick s) ok = sym (only-completions-wake n t (Open j tick s) ok refl)
-wakes-woken n t (Ask j tick s) ok = sym (only-completions-wake n t (Ask j tick s) ok refl)
-wakes-woken n t (Release j tick s) ok = sym (only-completions-wake n t (Release j tick s) ok refl)
-wakes-woken n t (Complete j tick) ok = rw (next-accepted n t (Complete j tick) ok)
+wakes-woken n t e ok = go (about e .wakes) refl
+  where
+    go :
+        (w : Bool) → about e .wakes ≡ w →
+        cond w (woken (t .tokens) (t .rows) (accepted t e .rows)) [] ≡ woken (t .tokens) (t .rows) (next n t e .rows)
+    go true loud = rw (next-accepted n t e ok)
+    go false quiet = sym (quiet-wakes-nobody n t e ok quiet)
 
 -- ---- Waiting times
 

@@ -1,10 +1,10 @@
 -- What is said of accepted events and of rows while the table around them moves on.
-use Prim.Native.Nat.{ℕ, _<_, _≤_}
+use Prim.Native.Nat.{ℕ, _+_, _<_, _≤_}
 use mathlib.Core.Path.{_≡_}
 use Rattle.event.specs.declared.events.Event.{Event}
 use Rattle.laws.specs.Cases.{first, refused}
 use Rattle.event.specs.Limits.{jobs}
-use Rattle.rows.specs.Order.{ahead, inWay, waiting}
+use Rattle.rows.specs.Order.{ahead, idle, inWay, openingOf, waiting}
 use Rattle.arbiter.specs.Refusals.{cases}
 use Rattle.arbiter.specs.declared.table.Table.{Table}
 use Rattle.arbiter.specs.Sound.{rowIn}
@@ -12,10 +12,9 @@ use mathlib.Core.Bool.{true, false, Bool}
 use mathlib.Core.List.{List}
 use Rattle.laws.specs.Sets.{union}
 use Rattle.rows.specs.declared.row.Row.{Row}
-use Rattle.event.specs.declared.events.Event.the-variants.{Beat, Open, Ask, Release, Complete}
 use Rattle.rows.specs.Sweep.{sweptRow}
 use Rattle.arbiter.specs.Meaning.{accepted, answer, overdue, report}
-use Rattle.event.specs.Events.{names}
+use Rattle.event.specs.Events.{about, names}
 use mathlib.Core.Logic.{_≢_}
 
 -- no case refuses the event
@@ -79,22 +78,14 @@ pub record Clearer (rows rows′ : List Row) (n : ℕ) : Type 0 where
 
 -- ---- What becomes of a row
 
--- whether an event is a completion
-abbrev pub completes : Event → Bool
-completes (Beat tick) = false
-completes (Open j tick s) = false
-completes (Ask j tick s) = false
-completes (Release j tick s) = false
-completes (Complete j tick) = true
-
 -- after an accepted event a row is the same and looks on alike rows; or the event named it, and it did not wait before;
--- or it stayed when another completed, and the rows left were swept
+-- or it stayed when another event might wake it, and the rows were swept
 pub data Fate (t : Table) (e : Event) (k : ℕ) : Type 0 where
   same :
       rowIn (accepted t e) k ≡ rowIn t k → Alike (t .rows) (accepted t e .rows) (rowIn t k .turn .0) → Fate t e k
   acted : names k e ≡ true → waiting (t .tokens) (t .rows) (rowIn t k) ≡ false → Fate t e k
   stayed :
-      completes e ≡ true → (rows : List Row) → rowIn (accepted t e) k ≡ sweptRow (t .tokens) rows (rowIn t k) →
+      about e .wakes ≡ true → (rows : List Row) → rowIn (accepted t e) k ≡ sweptRow (t .tokens) rows (rowIn t k) →
       Alike rows (accepted t e .rows) (rowIn t k .turn .0) → Fate t e k
 
 -- ---- Refusal 3
@@ -104,3 +95,22 @@ pub record NeverUnsound (t : Table) : Type 0 where
   pub event : (n : ℕ) (e : Event) → answer n t e ≢ refused 3
   pub report : (j : ℕ) → report t j ≢ refused 3
   pub overdue : (n tick : ℕ) → overdue n t tick ≢ refused 3
+
+-- ---- What becomes of the row of a job by what it was opened with
+
+-- after an accepted event the row of job k keeps turn and declared set; or the event was its own, and it is idle now; or it
+-- was idle, the event was its own, and it has the next turn
+pub data Change (t : Table) (e : Event) (k : ℕ) : Type 0 where
+  kept : openingOf (rowIn (accepted t e) k) ≡ openingOf (rowIn t k) → Change t e k
+  ended : about e .wakes ≡ true → names k e ≡ true → Acts t k → rowIn (accepted t e) k ≡ idle → Change t e k
+  began : names k e ≡ true → rowIn t k .turn .0 ≡ 0 → rowIn (accepted t e) k .turn .0 ≡ t .last .0 + 1 → Change t e k
+
+-- a test by what a row was opened with, which no idle row passes
+pub record ByOpening (f : Row → Bool) : Type 0 where
+  pub by-opening : (r : Row) → f (openingOf r) ≡ f r
+  pub idle-fails : (r : Row) → r .turn .0 ≡ 0 → f r ≡ false
+
+-- and none of turn n or higher
+pub record Lower (n : ℕ) (f : Row → Bool) : Type 0 where
+  pub opening : ByOpening f
+  pub late-fails : (r : Row) → n ≤ r .turn .0 → f r ≡ false

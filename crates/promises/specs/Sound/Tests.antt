@@ -1,22 +1,21 @@
 -- A sound table in plain propositions: what the tests of `sound` say, and that they say no more.
 use Prim.Native.Nat.{ℕ, _<_, _≤_}
-use mathlib.Core.Bool.{Bool, true, false, cond, not, _&&_, _||_, true≢false}
+use mathlib.Core.Bool.{Bool, true, false, cond, not, _&&_}
 use mathlib.Core.List.{List, _++_}
 use mathlib.Core.Path.{_≡_, refl, ap}
 use native.Mathlib.Nat.{le-of-eq}
 use native.Mathlib.Omega.{arith}
-use borrow.Author.Tests.{ltb-true, ltb-false, lt-ltb, le-ltb, leb-true, le-leb, eqb-true, eqb-false, eq-eqb, ne-eqb, not-true}
+use borrow.Author.Tests.{ltb-true, ltb-false, lt-ltb, le-ltb, leb-true, le-leb, eqb-true, eq-eqb, not-true}
 use lib.Arith.{le-zero}
-use lib.Dec.{eqb, leb}
-use Rattle.laws.specs.BoolLaws.{and-left, and-right}
+use lib.Dec.{leb, ltb}
+use Rattle.laws.specs.BoolLaws.{and-left, and-right, denied, denying, implied, implying}
 use Rattle.laws.specs.Counts.{all-each, each-all}
 use Rattle.laws.specs.Lists.{all, holds}
-use Rattle.rows.specs.Order.{ahead, blocked, distinct, idle, live, waiting}
+use Rattle.rows.specs.Order.{distinct, idle, live, waiting}
 use Rattle.rows.specs.Turns.{distinct-rows, distinct-test, waiting-reads}
 use Rattle.rows.specs.declared.row.Row.{Row}
 use Rattle.laws.specs.HoldLaws.{_and_, hold, none, nth}
-use Rattle.arbiter.specs.ByStanding.{claimConditions}
-use Rattle.arbiter.specs.Sound.{counters, idleRow, ownConditions, ranges, sound, soundRow, within, rowIn}
+use Rattle.arbiter.specs.Sound.{counters, idleConditions, ownConditions, placeConditions, ranges, rowIn, sound, soundRow, waitingIn, within}
 use Rattle.arbiter.specs.declared.table.Table.{Table}
 use Rattle.promises.specs.Sound.Words.{LiveRow, SoundRow, InRange, SoundTable}
 
@@ -29,20 +28,9 @@ zeros r turn declared held asked since =
 
 -- ---- Rows
 
--- where the first fails, the second holds; and back
-or-else : (a b : Bool) → (a || b) ≡ true → a ≡ false → b ≡ true
-or-else true b e f = absurd (true≢false f)
-or-else false b e f = e
-
-else-or : (a b : Bool) → (a ≡ false → b ≡ true) → (a || b) ≡ true
-else-or true b e = refl
-else-or false b e = e refl
-
 -- the tests of a live row
 abbrev liveRow : Table → Row → List Bool
-liveRow t r =
-    ownConditions (t .resources) (t .last .0) r
-    ++ claimConditions (t .tokens) (t .time) r (ahead (t .rows) (r .turn .0)) (blocked (t .rows) (r .turn .0))
+liveRow t r = ownConditions t r ++ placeConditions t r
 
 module _ (t : Table) (r : Row) where
   live-row : 0 < r .turn .0 → holds (liveRow t r) ≡ true → LiveRow t r
@@ -53,14 +41,14 @@ module _ (t : Table) (r : Row) where
     held-declared = nth (liveRow t r) e 3;
     asked-declared = nth (liveRow t r) e 4;
     apart = not-true _ (nth (liveRow t r) e 5);
-    holds-by-token = λ h. eqb-true _ _ (or-else _ _ (nth (liveRow t r) e 6) (le-ltb _ _ h));
-    asks-by-token = λ h. eqb-true _ _ (or-else _ _ (nth (liveRow t r) e 7) (le-ltb _ _ h));
+    holds-by-token = λ h. le-zero (ltb-false _ _ (denied _ _ (nth (liveRow t r) e 6) (le-ltb _ _ h)));
+    asks-by-token = λ h. le-zero (ltb-false _ _ (denied _ _ (nth (liveRow t r) e 7) (le-ltb _ _ h)));
     held-free = le-zero (ltb-false _ _ (not-true _ (nth (liveRow t r) e 8)));
-    asked-blocked = λ h. ltb-true _ _ (or-else _ _ (nth (liveRow t r) e 9) (ne-eqb (r .asked) 0 (omega arith)));
+    asked-blocked = λ h. ltb-true _ _ (implied _ _ (nth (liveRow t r) e 9) (lt-ltb 0 (r .asked) h));
     waits-since = leb-true _ _ (nth (liveRow t r) e 10);
     rests = λ h a.
         let still = waiting-reads (t .tokens) (t .rows) r alive .fails .1 (h, a) in
-        eqb-true _ _ (or-else _ _ (nth (liveRow t r) e 11) still);
+        eqb-true _ _ (implied _ _ (nth (liveRow t r) e 11) (ap not still));
   }
 
   row-live : 0 < r .turn .0 → LiveRow t r → holds (liveRow t r) ≡ true
@@ -72,12 +60,12 @@ module _ (t : Table) (r : Row) where
       and p .held-declared
       and p .asked-declared
       and ap not (p .apart)
-      and else-or _ _ (λ f. eq-eqb _ _ (p .holds-by-token (ltb-false _ _ f)))
-      and else-or _ _ (λ f. eq-eqb _ _ (p .asks-by-token (ltb-false _ _ f)))
+      and denying _ _ (λ f. le-ltb 0 (r .held) (le-of-eq (p .holds-by-token (ltb-false _ _ f))))
+      and denying _ _ (λ f. le-ltb 0 (r .asked) (le-of-eq (p .asks-by-token (ltb-false _ _ f))))
       and ap not (le-ltb _ _ (le-of-eq (p .held-free)))
-      and else-or (eqb (r .asked) 0) _ (λ f. lt-ltb _ _ (p .asked-blocked (omega (arith, eqb-false (r .asked) 0 f))))
+      and implying (ltb 0 (r .asked)) _ (λ f. lt-ltb _ _ (p .asked-blocked (ltb-true 0 (r .asked) f)))
       and le-leb _ _ (p .waits-since)
-      and else-or (waiting (t .tokens) (t .rows) r) _ (λ f. eq-eqb _ _ (rests f))
+      and implying (not (waitingIn t r)) _ (λ f. eq-eqb _ _ (rests (not-true (waitingIn t r) f)))
       and none)
     where
       rests : waiting (t .tokens) (t .rows) r ≡ false → r .since ≡ 0
@@ -87,12 +75,12 @@ module _ (t : Table) (r : Row) where
   pub row-sound : soundRow t r ≡ true → SoundRow t r
   row-sound = go (live r) refl
     where
-      go : (b : Bool) → live r ≡ b → holds (cond b (liveRow t r) (idleRow r)) ≡ true → SoundRow t r
+      go : (b : Bool) → live r ≡ b → holds (cond b (liveRow t r) (idleConditions r)) ≡ true → SoundRow t r
       go true l e = record { idles = λ z. absurd (omega (arith, ltb-true 0 (r .turn .0) l)); lives = λ h. live-row h e }
       go false l e = record {
         idles = λ z.
-            zeros r z (eqb-true _ _ (nth (idleRow r) e 0)) (eqb-true _ _ (nth (idleRow r) e 1)) (eqb-true _ _ (nth (idleRow r) e 2))
-            (eqb-true _ _ (nth (idleRow r) e 3));
+            zeros r z (eqb-true _ _ (nth (idleConditions r) e 0)) (eqb-true _ _ (nth (idleConditions r) e 1)) (eqb-true _ _ (nth (idleConditions r) e 2))
+            (eqb-true _ _ (nth (idleConditions r) e 3));
         lives = λ h. absurd (omega (arith, ltb-false 0 (r .turn .0) l));
       }
 
@@ -100,7 +88,7 @@ module _ (t : Table) (r : Row) where
   unfolding all
   sound-row p = go (live r) refl
     where
-      go : (b : Bool) → live r ≡ b → holds (cond b (liveRow t r) (idleRow r)) ≡ true
+      go : (b : Bool) → live r ≡ b → holds (cond b (liveRow t r) (idleConditions r)) ≡ true
       go true l = let h = ltb-true 0 (r .turn .0) l in row-live h (p .lives h)
       go false l = rw (p .idles (le-zero (ltb-false 0 (r .turn .0) l)))
 

@@ -3,11 +3,11 @@ use Prim.Native.Nat.{ℕ, _-_, _^_, _<_, _≤_}
 use mathlib.Core.Bool.{true, false, cond, Bool, _&&_}
 use mathlib.Core.Path.{_≡_}
 use Rattle.laws.specs.Sets.{below, inside, meets}
-use Rattle.rows.specs.Line.{rowOf}
-use Rattle.rows.specs.Order.{ahead, distinct, idle, inWay, earlier, live, token}
+use Rattle.rows.specs.Order.{ahead, idle, inWay, earlier, live, token}
 use Rattle.rows.specs.Turns.{Distinct}
 use Rattle.rows.specs.declared.row.Row.{Row}
-use Rattle.arbiter.specs.Sound.{ranges}
+use Rattle.arbiter.specs.Sound.{rowIn}
+use Rattle.event.specs.Limits.{highest, most}
 use Rattle.arbiter.specs.declared.table.Table.{Table}
 use mathlib.Core.List.{List}
 
@@ -37,15 +37,15 @@ pub record SoundRow (t : Table) (r : Row) : Type 0 where
 
 -- T, R and the waiting limit in range
 pub record InRange (T R L : ℕ) : Type 0 where
-  pub tokens : (1 ≤ T) × (T ≤ 64)
-  pub resources : (1 ≤ R) × (R ≤ 64)
+  pub tokens : (1 ≤ T) × (T ≤ most)
+  pub resources : (1 ≤ R) × (R ≤ most)
   pub limit : (1 ≤ L) × (L ≤ 2 ^ 32 - 1)
 
 -- a table: numbers in range, no turn shared, every row sound
 pub record SoundTable (t : Table) : Type 0 where
   pub ranges : InRange (t .tokens) (t .resources) (t .limit)
-  pub time : t .time ≤ 2 ^ 63 - 1
-  pub last : t .last .0 ≤ 2 ^ 63 - 1
+  pub time : t .time ≤ highest
+  pub last : t .last .0 ≤ highest
   pub distinct : Distinct (t .rows)
   pub rows : (j : ℕ) → SoundRow t (rowIn t j)
 

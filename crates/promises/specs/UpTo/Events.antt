@@ -1,7 +1,7 @@
 -- What an event does to the requests of turns up to n: none of another changes anything of theirs, and whom it wakes among
 -- them is said by their rows alone.
-use Prim.Native.Nat.{ℕ, _+_, _≤_}
-use mathlib.Core.Bool.{Bool, true, false, cond, false≢true, true≢false}
+use Prim.Native.Nat.{ℕ, _+_}
+use mathlib.Core.Bool.{Bool, true, false, cond, _&&_, false≢true, true≢false}
 use mathlib.Core.List.{[], _∷_}
 use mathlib.Core.Path.{_≡_, refl, sym, ap, _∙_}
 use native.Mathlib.Omega.{arith}
@@ -9,11 +9,11 @@ use borrow.Author.Tests.{eqb-true, lt-ltb, ltb-true}
 use lib.Dec.{eqb}
 use lib.ListN.{length-map}
 use lib.Seq.{ext-getD}
+use Rattle.event.specs.Events.{about, hasJob, jobOf}
 use Rattle.event.specs.declared.events.Event.{Event}
-use Rattle.event.specs.declared.events.Event.the-variants.{Beat, Open, Ask, Release, Complete}
 use Rattle.rows.specs.Line.{keep}
 use Rattle.event.specs.Limits.{jobs}
-use Rattle.rows.specs.Order.{earlier, idle, live}
+use Rattle.rows.specs.Order.{earlier, idle}
 use Rattle.rows.specs.Sweep.{woken}
 use Rattle.rows.specs.Turns.{earlier-turn, turn-earlier}
 use Rattle.arbiter.specs.Meaning.{accepted, next, run, wakes}
@@ -28,7 +28,7 @@ use Rattle.promises.specs.Kept.Accepted.{next-accepted}
 use Rattle.promises.specs.Kept.Woken.{wakes-woken}
 use Rattle.arbiter.specs.Sound.{rowIn}
 use Rattle.promises.specs.Sound.Words.{seen}
-use Rattle.promises.specs.UpTo.Statement.{among, ofThem, upTo}
+use Rattle.promises.specs.UpTo.Statement.{isOfThem, ofThem, upTo}
 use Rattle.promises.specs.UpTo.Line.{woken-none, woken-up-to}
 use Rattle.promises.specs.UpTo.Rows.{row-up-to, seen-out}
 
@@ -38,7 +38,7 @@ refused-stays t e = next-either t e (λ b u. b ≡ false → u ≡ t) (λ ok q. 
 
 module _ {T n : ℕ} (t : Table) (along : Along T n t) (e : Event) where
   -- whoever is among them after an event was before it
-  back-among : (i : ℕ) → among n (next jobs t e) i ≡ true → among n t i ≡ true
+  back-among : (i : ℕ) → isOfThem n (next jobs t e) i ≡ true → isOfThem n t i ≡ true
   unfolding run
   back-among i q =
       let p = earlier-turn (n + 1) (rowIn (next jobs t e) i) q in
@@ -48,23 +48,14 @@ module _ {T n : ℕ} (t : Table) (along : Along T n t) (e : Event) where
 
   -- an event that is none of theirs names none of them
   beside : ofThem n t e ≡ false → Beside n t e
-  beside = go e
+  beside out i lives low = go (hasJob (about e .role)) (eqb (jobOf e) i) refl out
     where
-      other : (j i : ℕ) → among n t j ≡ false → live (rowIn t i) ≡ true → rowIn t i .turn .0 ≤ n → eqb j i ≡ false
-      other j i out lives low = is (eqb j i) refl
-        where
-          is : (b : Bool) → eqb j i ≡ b → b ≡ false
-          is true q =
-              let member = turn-earlier (n + 1) (rowIn t i) (ltb-true 0 (rowIn t i .turn .0) lives) (omega arith) in
-              sym member ∙ ap (among n t) (sym (eqb-true j i q)) ∙ out
-          is false q = refl
-
-      go : (e : Event) → ofThem n t e ≡ false → Beside n t e
-      go (Beat tick) out i lives low = refl
-      go (Open j tick s) out i lives low = other j i out lives low
-      go (Ask j tick s) out i lives low = other j i out lives low
-      go (Release j tick s) out i lives low = other j i out lives low
-      go (Complete j tick) out i lives low = other j i out lives low
+      go : (b c : Bool) → eqb (jobOf e) i ≡ c → (b && isOfThem n t (jobOf e)) ≡ false → (b && c) ≡ false
+      go true true q out =
+          let member = turn-earlier (n + 1) (rowIn t i) (ltb-true 0 (rowIn t i .turn .0) lives) (omega arith) in
+          sym member ∙ ap (isOfThem n t) (sym (eqb-true (jobOf e) i q)) ∙ out
+      go true false q out = refl
+      go false c q out = refl
 
   pub others : ofThem n t e ≡ false → upTo n (next jobs t e .rows) ≡ upTo n (t .rows)
   others out =
@@ -73,11 +64,11 @@ module _ {T n : ℕ} (t : Table) (along : Along T n t) (e : Event) where
       ∙ along-next along e .wide ∙ sym (along .wide) ∙ sym (length-map (t .rows) (seen (n + 1))))
       (λ i inside.
       row-up-to n (next jobs t e .rows) i
-      ∙ go i (among n t i) refl (among n (next jobs t e) i) refl
+      ∙ go i (isOfThem n t i) refl (isOfThem n (next jobs t e) i) refl
       ∙ sym (row-up-to n (t .rows) i))
     where
       go :
-          (i : ℕ) (b : Bool) → among n t i ≡ b → (c : Bool) → among n (next jobs t e) i ≡ c →
+          (i : ℕ) (b : Bool) → isOfThem n t i ≡ b → (c : Bool) → isOfThem n (next jobs t e) i ≡ c →
           seen (n + 1) (rowIn (next jobs t e) i) ≡ seen (n + 1) (rowIn t i)
       go i true p c q =
           let turn = earlier-turn (n + 1) (rowIn t i) p in
@@ -87,13 +78,13 @@ module _ {T n : ℕ} (t : Table) (along : Along T n t) (e : Event) where
 
   -- of the woken, those among them are those that the rows up to n say
   pub listed-woken :
-      keep (among n (next jobs t e)) (lists t e) ≡ woken T (upTo n (t .rows)) (upTo n (next jobs t e .rows))
+      keep (isOfThem n (next jobs t e)) (lists t e) ≡ woken T (upTo n (t .rows)) (upTo n (next jobs t e .rows))
   unfolding keep
   listed-woken =
       next-either t e
-      (λ b u. keep (among n u) (cond b (wakes t e) []) ≡ woken T (upTo n (t .rows)) (upTo n (u .rows)))
+      (λ b u. keep (isOfThem n u) (cond b (wakes t e) []) ≡ woken T (upTo n (t .rows)) (upTo n (u .rows)))
       (λ ok.
-      ap (keep (among n (accepted t e))) (rw (next-accepted jobs t e ok) at (wakes-woken jobs t e ok))
+      ap (keep (isOfThem n (accepted t e))) (rw (next-accepted jobs t e ok) at (wakes-woken jobs t e ok))
       ∙ woken-up-to n (t .tokens) (t .rows) (accepted t e .rows) (λ i. rw (next-accepted jobs t e ok) at (back-among i))
       ∙ ap (λ (T : ℕ). woken T (upTo n (t .rows)) (upTo n (accepted t e .rows))) (along .tokens))
       (sym (woken-none T (upTo n (t .rows))))

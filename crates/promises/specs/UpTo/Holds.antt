@@ -1,24 +1,19 @@
 -- Requests of turns up to n: what they live through depends on the rows of turns up to n alone. The proof.
 use Prim.Native.Nat.{ℕ, _+_}
 use mathlib.Core.Bool.{Bool, true, false, cond, false≢true}
-use mathlib.Core.List.{List, [], _∷_}
+use mathlib.Core.List.{List, [], _∷_, _++_}
 use mathlib.Core.Path.{_≡_, refl, sym, ap, _∙_}
 use native.Mathlib.Omega.{arith}
-use borrow.Author.Tests.{lt-ltb}
 use lib.ListN.{length, set}
 use Rattle.event.specs.declared.events.Event.{Event}
 use Rattle.event.specs.declared.events.Event.the-variants.{Beat, Open, Ask, Release, Complete}
-use Rattle.laws.specs.Cases.{outcome, refused}
+use Rattle.laws.specs.Cases.{outcome, Case}
 use Rattle.laws.specs.Sets.{union}
 use Rattle.rows.specs.Line.{keep, line}
 use Rattle.event.specs.Limits.{jobs}
-use Rattle.rows.specs.Order.{idle, live}
 use Rattle.rows.specs.Sweep.{settled, woken}
 use Rattle.rows.specs.Turns.{earlier-turn}
 use Rattle.rows.specs.declared.row.Row.{Row}
-use Rattle.arbiter.specs.Answers.{saysWoke}
-use Rattle.arbiter.specs.Meaning.{accepted, answer, askedRow, lateAt, lateJob, moved, next, releasedRow, run, timeAt, wakes}
-use Rattle.arbiter.specs.Refusals.{cases, shortList}
 use Rattle.arbiter.specs.Sound.{sound, rowIn}
 use Rattle.arbiter.specs.declared.table.Table.{Table}
 use Rattle.promises.specs.History.Events.{accepts}
@@ -28,61 +23,85 @@ use Rattle.promises.specs.Kept.Soundness.{next-sound}
 use Rattle.promises.specs.Kept.Words.{Accepts}
 use Rattle.promises.specs.Kept.Accepted.{next-accepted, open-idle}
 use Rattle.promises.specs.Sound.Words.{seen}
-use Rattle.promises.specs.UpTo.Statement.{Agree, SameUpTo, ToldAlike, butNumber, ofThem, upTo, TakenAlike}
+use Rattle.promises.specs.UpTo.Statement.{Agree, SameUpTo, ToldAlike, butNumber, ofThem, upTo, TakenAlike, isOfThem}
 use Rattle.promises.specs.UpTo.Events.{listed-woken, others, refused-stays}
 use Rattle.promises.specs.UpTo.Line.{late-up-to}
 use Rattle.promises.specs.UpTo.Rows.{set-up-to, settled-up-to}
-use Rattle.promises.specs.UpTo.Same.{but-number, fine-but-number, open-refused, refusal, same-act, same-ask, same-blocked, same-of, same-release, same-report, same-row, same-time}
+use Rattle.promises.specs.UpTo.Same.{but-number, fine-but-number, same-blocked, same-cases, same-of, same-open, same-report, same-row, same-time}
+use Rattle.arbiter.specs.Refusals.{cases, listCases}
+use Rattle.arbiter.specs.Answers.{saysDone, saysGranted, saysWait, saysWoke}
+use Rattle.arbiter.specs.Meaning.{accepted, answer, lastAfter, lateAt, lateJob, moved, next, releasedRow, rowAfter, rowsAfter, rowsWith, run, timeAt, wakes}
+use Rattle.event.specs.Events.{about, asked, hasJob, jobOf, setOf, tickOf}
+use Rattle.event.specs.Refusals.{among}
+use Rattle.event.specs.declared.refusal.Refusal.the-variants.{TurnsSpent}
 
 module _ {T n : ℕ} {t u : Table} (along-t : Along T n t) (along-u : Along T n u) (sound-t : sound t ≡ true)
     (sound-u : sound u ≡ true) (a : Agree n t u) where
+  -- of an event of one of them the cases are the same
+  same-event :
+      (e : Event) → isOfThem n t (jobOf e) ≡ true → among TurnsSpent (asked (about e)) ≡ false → cases jobs t e ≡ cases jobs u e
+  same-event e in-t q =
+      ap (λ (cs : List Case). cond (about e .wakes) (listCases jobs) [] ++ cs)
+      (same-cases a (jobOf e) in-t sound-t sound-u (tickOf e) (setOf e) (asked (about e)) q)
+
   answered : (e : Event) → ofThem n t e ≡ true → butNumber (answer jobs t e) ≡ butNumber (answer jobs u e)
   unfolding answer
   answered (Beat tick) in-t = absurd (false≢true in-t)
-  answered (Open j tick s) in-t =
-      let lives : live (rowIn t j) ≡ true = lt-ltb 0 (rowIn t j .turn .0) (earlier-turn (n + 1) (rowIn t j) in-t .0) in
-      let both : sound t ≡ sound u = sound-t ∙ sym sound-u in
-      ap butNumber
-      (open-refused t j tick s lives
-      ∙ (λ i. refused (refusal (both i) (a .time i) j (tick .0)))
-      ∙ sym (open-refused u j tick s (ap live (sym (same-row a j in-t)) ∙ lives)))
-  answered (Ask j tick s) in-t = ap butNumber (same-ask a j in-t sound-t sound-u tick s)
-  answered (Release j tick s) in-t = ap butNumber (same-release a j in-t sound-t sound-u tick s)
+  answered (Open j tick s) in-t = ap butNumber (same-open a j in-t sound-t sound-u tick s)
+  answered (Ask j tick s) in-t =
+      λ i. butNumber (outcome (same-event (Ask j tick s) in-t refl i) (cond (same-blocked a j in-t s i) saysWait saysGranted))
+  answered (Release j tick s) in-t = λ i. butNumber (outcome (same-event (Release j tick s) in-t refl i) saysDone)
   answered (Complete j tick) in-t =
       let more = length (wakes u (Complete j tick)) in
       but-number (cases jobs t (Complete j tick)) (length (wakes t (Complete j tick))) more
-      ∙ (λ i. butNumber (outcome (shortList jobs ∷ same-act a j in-t sound-t sound-u (tick .0) i) (saysWoke more)))
+      ∙ (λ i. butNumber (outcome (same-event (Complete j tick) in-t refl i) (saysWoke more)))
 
   taken-alike : (e : Event) → ofThem n t e ≡ true → taken t e ≡ taken u e
   taken-alike e in-t =
       sym (fine-but-number (answer jobs t e)) ∙ ap isFine (answered e in-t) ∙ fine-but-number (answer jobs u e)
 
-  -- the rows that an accepted event of one of them leaves
-  rows-accepted :
-      (e : Event) → Accepts jobs t e → ofThem n t e ≡ true → upTo n (accepted t e .rows) ≡ upTo n (accepted u e .rows)
-  rows-accepted (Beat tick) ok in-t = absurd (false≢true in-t)
-  rows-accepted (Open j tick s) ok in-t =
+  -- what an accepted event of one of them makes of its row
+  same-row-after :
+      (e : Event) → Accepts jobs t e → ofThem n t e ≡ true →
+      rowAfter t (timeAt t (tickOf e)) e (rowIn t (jobOf e)) ≡ rowAfter u (timeAt u (tickOf e)) e (rowIn u (jobOf e))
+  same-row-after (Beat tick) ok in-t = absurd (false≢true in-t)
+  same-row-after (Open j tick s) ok in-t =
       absurd (omega (arith, earlier-turn (n + 1) (rowIn t j) in-t .0, open-idle jobs t j tick s ok))
-  rows-accepted (Ask j tick s) ok in-t =
+  same-row-after (Ask j tick s) ok in-t =
       let r = same-row a j in-t in
-      let asked : askedRow t (rowIn t j) (timeAt t (tick .0)) s ≡ askedRow u (rowIn u j) (timeAt u (tick .0)) s =
       λ i.
       cond (same-blocked a j in-t s i)
       (record { turn = r i .turn; declared = r i .declared; held = r i .held; asked = s; since = same-time a (tick .0) i })
-      (record { turn = r i .turn; declared = r i .declared; held = union (r i .held) s; asked = r i .asked; since = r i .since }) in
-      set-up-to n (t .rows) j (askedRow t (rowIn t j) (timeAt t (tick .0)) s)
-      ∙ (λ i. set (a .rows i) j (seen (n + 1) (asked i)))
-      ∙ sym (set-up-to n (u .rows) j (askedRow u (rowIn u j) (timeAt u (tick .0)) s))
-  rows-accepted (Release j tick s) ok in-t =
-      set-up-to n (t .rows) j (releasedRow (rowIn t j) s)
-      ∙ (λ i. set (a .rows i) j (seen (n + 1) (releasedRow (same-row a j in-t i) s)))
-      ∙ sym (set-up-to n (u .rows) j (releasedRow (rowIn u j) s))
-  rows-accepted (Complete j tick) ok in-t =
-      settled-up-to n (set (t .rows) j idle) (t .tokens)
-      ∙ ap (settled (t .tokens)) (set-up-to n (t .rows) j idle)
-      ∙ (λ i. settled (a .tokens i) (set (a .rows i) j idle))
-      ∙ ap (settled (u .tokens)) (sym (set-up-to n (u .rows) j idle))
-      ∙ sym (settled-up-to n (set (u .rows) j idle) (u .tokens))
+      (record { turn = r i .turn; declared = r i .declared; held = union (r i .held) s; asked = r i .asked; since = r i .since })
+  same-row-after (Release j tick s) ok in-t = ap (λ (r : Row). releasedRow r s) (same-row a j in-t)
+  same-row-after (Complete j tick) ok in-t = refl
+
+  -- the rows that an accepted event of one of them leaves
+  rows-accepted :
+      (e : Event) → Accepts jobs t e → ofThem n t e ≡ true → upTo n (accepted t e .rows) ≡ upTo n (accepted u e .rows)
+  rows-accepted e ok in-t = swept (about e .wakes)
+    where
+      row : Table → Row
+      row t = rowAfter t (timeAt t (tickOf e)) e (rowIn t (jobOf e))
+
+      written :
+          (b : Bool) →
+          upTo n (cond b (set (t .rows) (jobOf e) (row t)) (t .rows)) ≡ upTo n (cond b (set (u .rows) (jobOf e) (row u)) (u .rows))
+      written true =
+          set-up-to n (t .rows) (jobOf e) (row t)
+          ∙ (λ i. set (a .rows i) (jobOf e) (seen (n + 1) (same-row-after e ok in-t i)))
+          ∙ sym (set-up-to n (u .rows) (jobOf e) (row u))
+      written false = a .rows
+
+      swept :
+          (w : Bool) →
+          upTo n (cond w (settled (t .tokens) (rowsWith t e)) (rowsWith t e))
+          ≡ upTo n (cond w (settled (u .tokens) (rowsWith u e)) (rowsWith u e))
+      swept true =
+          settled-up-to n (rowsWith t e) (t .tokens)
+          ∙ (λ i. settled (a .tokens i) (written (hasJob (about e .role)) i))
+          ∙ sym (settled-up-to n (rowsWith u e) (u .tokens))
+      swept false = written (hasJob (about e .role))
 
   module _ (e : Event) where
     rows-next : upTo n (next jobs t e .rows) ≡ upTo n (next jobs u e .rows)
@@ -107,11 +126,7 @@ module _ {T n : ℕ} {t u : Table} (along-t : Along T n t) (along-u : Along T n 
 
     agree-accepted :
         (e : Event) → upTo n (accepted t e .rows) ≡ upTo n (accepted u e .rows) → Agree n (accepted t e) (accepted u e)
-    agree-accepted (Beat tick) same = agree-moved (tick .0) _ _ _ _ same
-    agree-accepted (Open j tick s) same = agree-moved (tick .0) _ _ _ _ same
-    agree-accepted (Ask j tick s) same = agree-moved (tick .0) _ _ _ _ same
-    agree-accepted (Release j tick s) same = agree-moved (tick .0) _ _ _ _ same
-    agree-accepted (Complete j tick) same = agree-moved (tick .0) _ _ _ _ same
+    agree-accepted e same = agree-moved (tickOf e) (lastAfter t e) (lastAfter u e) (rowsAfter t e) (rowsAfter u e) same
 
     agree-next : taken t e ≡ taken u e → Agree n (next jobs t e) (next jobs u e)
     agree-next alike = go (taken t e) refl

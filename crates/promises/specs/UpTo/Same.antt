@@ -1,15 +1,15 @@
 -- What is the same on two tables that agree up to turn n: the row of each request up to n, who stands before it, what is in
 -- its way, and so what it is answered.
-use Prim.Native.Nat.{ℕ, zero, suc, _+_, _-_, _^_, _≤_}
-use mathlib.Core.Bool.{Bool, true, false, cond, not, _&&_, _||_, false≢true}
-use mathlib.Core.List.{List, [], _∷_, _++_}
+use Prim.Native.Nat.{ℕ, zero, suc, _+_, _<_, _≤_}
+use mathlib.Core.Bool.{Bool, true, false, not, _&&_, _||_, true≢false}
+use mathlib.Core.List.{List, [], _∷_}
 use mathlib.Core.Path.{_≡_, refl, sym, ap, _∙_}
 use native.Mathlib.Omega.{arith}
-use lib.Dec.{leb, ltb}
-use Rattle.event.specs.Clock.{clockCases, difference}
+use lib.Dec.{eqb, leb, ltb}
+use Rattle.event.specs.Clock.{difference, goneBack, timeSpent}
 use Rattle.event.specs.declared.clock.Tick.{Tick}
 use Rattle.event.specs.declared.events.Event.{Event}
-use Rattle.event.specs.declared.events.Event.the-variants.{Beat, Open, Ask, Release, Complete}
+use Rattle.event.specs.declared.events.Event.the-variants.{Open}
 use Rattle.laws.specs.Cases.{Case, Outcome, refused, fine, first, outcome, unless, when}
 use Rattle.rows.specs.Line.{rowOf}
 use Rattle.event.specs.Limits.{jobs}
@@ -18,34 +18,44 @@ use Rattle.rows.specs.Turns.{earlier-turn}
 use Rattle.rows.specs.declared.row.Row.{Row}
 use Rattle.arbiter.specs.Answers.{Said, saysDone, saysGranted, saysToken, saysWait, saysWoke}
 use Rattle.arbiter.specs.Meaning.{answer, report, timeAt, said}
-use Rattle.arbiter.specs.Verdicts.{actCases, askCases, releaseCases, setCases, turnCases}
+use Rattle.arbiter.specs.Refusals.{applies, calling}
 use Rattle.arbiter.specs.Sound.{sound, rowIn}
 use Rattle.arbiter.specs.declared.table.Table.{Table}
 use Rattle.promises.specs.History.Words.{isFine}
 use Rattle.promises.specs.Sound.Words.{seen}
-use Rattle.promises.specs.UpTo.Statement.{Agree, among, butNumber, ofThem}
+use Rattle.promises.specs.UpTo.Statement.{Agree, isOfThem, butNumber, ofThem}
 use Rattle.promises.specs.UpTo.Rows.{alike-up-to, earlier-seen, row-up-to, seen-in}
+use Rattle.event.specs.Events.{about, hasJob, jobOf}
+use Rattle.event.specs.RefusalLaws.{some-first}
+use Rattle.event.specs.Refusals.{among, casesBy, numberOf, refusing}
+use Rattle.event.specs.declared.refusal.Refusal.{Refusal}
+use Rattle.event.specs.declared.refusal.Refusal.the-variants.{BadStart, ShortList, UnsoundTable, NoSuchJob, ClockGoneBack, TimeSpent, AlreadyLive, NotLive, NoToken, StillWaiting, EmptySet, NoSuchResource, NotDeclared, AlreadyHeld, NotHeld, TurnsSpent, WrongLength, UnknownKind, BitSet, StartOutOfPlace}
+use native.Mathlib.Nat.{lt-irrefl}
+use Rattle.laws.specs.BoolLaws.{and-left}
+use Rattle.laws.specs.CaseLaws.{first-front}
+use Rattle.laws.specs.Sets.{below, inside, meets}
+
+-- a refusal is one whatever the value would have been
+unless-some : {A : Type 0} (x y : A) (k : ℕ) → 0 < k → unless k x ≡ unless k y
+unless-some x y zero h = absurd (lt-irrefl 0 h)
+unless-some x y (suc k) h = refl
 
 module _ {n : ℕ} {t u : Table} (a : Agree n t u) where
   pub same-seen : (j : ℕ) → seen (n + 1) (rowIn t j) ≡ seen (n + 1) (rowIn u j)
   same-seen j = sym (row-up-to n (t .rows) j) ∙ ap (λ (l : List Row). rowOf l j) (a .rows) ∙ row-up-to n (u .rows) j
 
-  pub same-among : (j : ℕ) → among n t j ≡ among n u j
+  pub same-among : (j : ℕ) → isOfThem n t j ≡ isOfThem n u j
   same-among j =
       sym (earlier-seen (n + 1) (rowIn t j)) ∙ ap (earlier (n + 1)) (same-seen j) ∙ earlier-seen (n + 1) (rowIn u j)
 
   pub same-of : (e : Event) → ofThem n t e ≡ ofThem n u e
-  same-of (Beat tick) = refl
-  same-of (Open j tick s) = same-among j
-  same-of (Ask j tick s) = same-among j
-  same-of (Release j tick s) = same-among j
-  same-of (Complete j tick) = same-among j
+  same-of e = ap (λ (b : Bool). hasJob (about e .role) && b) (same-among (jobOf e))
 
   pub same-time : (tick : ℕ) → timeAt t tick ≡ timeAt u tick
   same-time tick = ap (λ (time : ℕ). time + difference time tick) (a .time)
 
   -- of one of them
-  module _ (j : ℕ) (in-t : among n t j ≡ true) where
+  module _ (j : ℕ) (in-t : isOfThem n t j ≡ true) where
     pub same-row : rowIn t j ≡ rowIn u j
     same-row =
         sym (seen-in (n + 1) (rowIn t j) in-t)
@@ -78,21 +88,62 @@ module _ {n : ℕ} {t u : Table} (a : Agree n t u) where
         (λ i. ltb (same-ahead i) (a .tokens i)) ∙ ap (λ (r : Row). ltb (ahead (u .rows) (r .turn .0)) (u .tokens)) same-row
 
     module _ (sound-t : sound t ≡ true) (sound-u : sound u ≡ true) where
-      -- what is asked of one of them that acts
-      pub same-act : (tick : ℕ) → actCases t j tick ≡ actCases u j tick
-      same-act tick =
-          let s : sound t ≡ sound u = sound-t ∙ sym sound-u in
-          λ i.
-          (when 3 (not (s i)) ∷ when 4 (leb jobs j) ∷ clockCases (a .time i) tick)
-          ++ (when 8 (not (live (same-row i))) ∷ when 9 (not (same-has i)) ∷ when 10 (ltb 0 (same-row i .asked)) ∷ [])
+      -- whether a refusal applies to a call of one of them; only an opening looks at the last turn
+      same-applies :
+          (tick s : ℕ) (r : Refusal) → eqb (numberOf r) (numberOf TurnsSpent) ≡ false →
+          applies t (calling j tick s) r ≡ applies u (calling j tick s) r
+      same-applies tick s UnsoundTable q = ap not (sound-t ∙ sym sound-u)
+      same-applies tick s NoSuchJob q = refl
+      same-applies tick s ClockGoneBack q = ap (λ (time : ℕ). goneBack time tick) (a .time)
+      same-applies tick s TimeSpent q = ap (λ (time : ℕ). timeSpent time tick) (a .time)
+      same-applies tick s AlreadyLive q = ap live same-row
+      same-applies tick s NotLive q = ap (λ (r : Row). not (live r)) same-row
+      same-applies tick s NoToken q = ap not same-has
+      same-applies tick s StillWaiting q = ap (λ (r : Row). ltb 0 (r .asked)) same-row
+      same-applies tick s EmptySet q = refl
+      same-applies tick s NoSuchResource q = ap (λ (R : ℕ). not (below s R)) (a .resources)
+      same-applies tick s NotDeclared q = ap (λ (r : Row). not (inside s (r .declared))) same-row
+      same-applies tick s AlreadyHeld q = ap (λ (r : Row). meets s (r .held)) same-row
+      same-applies tick s NotHeld q = ap (λ (r : Row). not (inside s (r .held))) same-row
+      same-applies tick s TurnsSpent q = absurd (true≢false q)
+      same-applies tick s BadStart q = refl
+      same-applies tick s ShortList q = refl
+      same-applies tick s WrongLength q = refl
+      same-applies tick s UnknownKind q = refl
+      same-applies tick s BitSet q = refl
+      same-applies tick s StartOutOfPlace q = refl
 
-      pub same-ask :
-          (tick : Tick) (s : ℕ) → answer jobs t (Ask j tick s) ≡ answer jobs u (Ask j tick s)
-      unfolding answer
-      same-ask tick s =
-          λ i.
-          outcome (same-act (tick .0) i ++ (setCases (a .resources i) s ++ askCases (same-row i) s))
-          (cond (same-blocked s i) saysWait saysGranted)
+      -- so the cases of a call of one of them are the same
+      pub same-cases :
+          (tick s : ℕ) (rs : List Refusal) → among TurnsSpent rs ≡ false →
+          casesBy (applies t (calling j tick s)) rs ≡ casesBy (applies u (calling j tick s)) rs
+      same-cases tick s [] q = refl
+      same-cases tick s (r ∷ rs) q = go (eqb (numberOf r) 16) refl q (same-cases tick s rs)
+        where
+          go :
+              (b : Bool) → eqb (numberOf r) 16 ≡ b → (b || among TurnsSpent rs) ≡ false →
+              (among TurnsSpent rs ≡ false → casesBy (applies t (calling j tick s)) rs ≡ casesBy (applies u (calling j tick s)) rs) →
+              casesBy (applies t (calling j tick s)) (r ∷ rs) ≡ casesBy (applies u (calling j tick s)) (r ∷ rs)
+          go true p q more = absurd (true≢false q)
+          go false p q more = λ i. refusing r (same-applies tick s r p i) ∷ more q i
+
+      -- an opening for a job that has a live request is refused, no later than because of that
+      pub same-open : (tick : Tick) (s : ℕ) → answer jobs t (Open j tick s) ≡ answer jobs u (Open j tick s)
+      unfolding answer outcome
+      same-open tick s =
+          let c = calling j (tick .0) s in
+          let front : List Refusal = UnsoundTable ∷ NoSuchJob ∷ ClockGoneBack ∷ TimeSpent ∷ AlreadyLive ∷ [] in
+          let lives = and-left (live (rowIn t j)) (ltb turn (n + 1)) in-t in
+          let some-t = some-first (applies t c) front AlreadyLive refl lives in
+          let some-u = some-first (applies u c) front AlreadyLive refl (ap live (sym same-row) ∙ lives) in
+          let same-front = ap first (same-cases (tick .0) s front refl) in
+          ap (λ (k : ℕ). unless k (said t (Open j tick s)))
+          (first-front (casesBy (applies t c) front) (casesBy (applies t c) (EmptySet ∷ NoSuchResource ∷ TurnsSpent ∷ [])) some-t
+          ∙ same-front)
+          ∙ unless-some (said t (Open j tick s)) (said u (Open j tick s)) (first (casesBy (applies u c) front)) some-u
+          ∙ ap (λ (k : ℕ). unless k (said u (Open j tick s)))
+          (sym
+          (first-front (casesBy (applies u c) front) (casesBy (applies u c) (EmptySet ∷ NoSuchResource ∷ TurnsSpent ∷ [])) some-u))
 
       -- what is reported of one of them
       pub same-report : report t j ≡ report u j
@@ -108,16 +159,11 @@ module _ {n : ℕ} {t u : Table} (a : Agree n t u) where
           outcome (when 3 (not (s i)) ∷ when 4 (leb jobs j) ∷ when 8 (not (live (r i))) ∷ [])
           (record {
             turn = r i .turn;
-            saysToken = same-has i;
+            token = same-has i;
             waiting = live (r i) && (not (same-has i) || ltb 0 (r i .asked));
             ahead = before i;
             «in_way» = way i;
           })
-
-      pub same-release : (tick : Tick) (s : ℕ) → answer jobs t (Release j tick s) ≡ answer jobs u (Release j tick s)
-      unfolding answer
-      same-release tick s =
-          λ i. outcome (same-act (tick .0) i ++ (setCases (a .resources i) s ++ releaseCases (same-row i) s)) saysDone
 
 -- an answer to a completion tells the number, and a refusal
 pub but-number : (cs : List Case) (k k′ : ℕ) → butNumber (outcome cs (saysWoke k)) ≡ butNumber (outcome cs (saysWoke k′))
@@ -135,29 +181,3 @@ fine-but-number (fine saysGranted) = refl
 fine-but-number (fine saysWait) = refl
 fine-but-number (fine saysDone) = refl
 fine-but-number (fine (saysWoke k)) = refl
-
--- how an opening for a job that has a live request is refused: no later than by 7
-abbrev pub refusal : Bool → ℕ → ℕ → ℕ → ℕ
-refusal sound time j tick =
-    cond (not sound) 3
-    (cond (leb jobs j) 4
-    (cond (leb (2 ^ 31) (difference time tick)) 5 (cond (ltb (2 ^ 63 - 1) (time + difference time tick)) 6 7)))
-
-pub open-refused :
-    (t : Table) (j : ℕ) (tick : Tick) (s : ℕ) → live (rowIn t j) ≡ true →
-    answer jobs t (Open j tick s) ≡ refused (refusal (sound t) (t .time) j (tick .0))
-unfolding answer outcome first
-open-refused t j tick s lives =
-    let d = difference (t .time) (tick .0) in
-    go (not (sound t)) (leb jobs j) (leb (2 ^ 31) d) (ltb (2 ^ 63 - 1) (t .time + d)) (live (rowIn t j)) lives
-  where
-    go :
-        (b3 b4 b5 b6 b7 : Bool) → b7 ≡ true →
-        unless (cond b3 3 (cond b4 4 (cond b5 5 (cond b6 6 (cond b7 7 (first (setCases (t .resources) s ++ turnCases (t .last .0)))))))) (said t (Open j tick s))
-        ≡ refused (cond b3 3 (cond b4 4 (cond b5 5 (cond b6 6 7))))
-    go true b4 b5 b6 b7 e = refl
-    go false true b5 b6 b7 e = refl
-    go false false true b6 b7 e = refl
-    go false false false true b7 e = refl
-    go false false false false true e = refl
-    go false false false false false e = absurd (false≢true e)

@@ -1,12 +1,12 @@
 -- What requests of turns up to n live through depends on the rows of turns up to n, and on no others. `up-to-decides`
--- and `up-to-tells` (UpToHolds) say so, as `SameUpTo` of any event and as `ToldAlike`, of two sound tables that `Agree`;
+-- and `up-to-tells` (Holds) say so, as `SameUpTo` of any event and as `ToldAlike`, of two sound tables that `Agree`;
 -- each has a row for each job and has given turn n.
 use Prim.Native.Nat.{ℕ, _+_}
-use mathlib.Core.Bool.{Bool, true, false}
+use mathlib.Core.Bool.{Bool, true, false, _&&_}
 use mathlib.Core.List.{List, map, [], _∷_}
 use mathlib.Core.Path.{_≡_}
+use Rattle.event.specs.Events.{about, hasJob, jobOf}
 use Rattle.event.specs.declared.events.Event.{Event}
-use Rattle.event.specs.declared.events.Event.the-variants.{Beat, Open, Ask, Release, Complete}
 use Rattle.laws.specs.Cases.{Outcome, refused, fine}
 use Rattle.rows.specs.Line.{keep}
 use Rattle.event.specs.Limits.{jobs}
@@ -18,8 +18,6 @@ use Rattle.arbiter.specs.declared.table.Table.{Table}
 use Rattle.promises.specs.History.Words.{lists, taken}
 use Rattle.arbiter.specs.Sound.{rowIn}
 use Rattle.promises.specs.Sound.Words.{seen}
-use Rattle.promises.specs.UpTo.Events.{others}
-use Rattle.promises.specs.UpTo.Holds.{answered, taken-alike}
 
 -- the rows with those of higher turn than n made idle
 abbrev pub upTo : ℕ → List Row → List Row
@@ -34,16 +32,12 @@ pub record Agree (n : ℕ) (t u : Table) : Type 0 where
   pub rows : upTo n (t .rows) ≡ upTo n (u .rows)
 
 -- job j has a live request of a turn up to n
-abbrev pub among : ℕ → Table → ℕ → Bool
-among n t j = earlier (n + 1) (rowIn t j)
+abbrev pub isOfThem : ℕ → Table → ℕ → Bool
+isOfThem n t j = earlier (n + 1) (rowIn t j)
 
 -- an event names such a job
 abbrev pub ofThem : ℕ → Table → Event → Bool
-ofThem n t (Beat tick) = false
-ofThem n t (Open j tick s) = among n t j
-ofThem n t (Ask j tick s) = among n t j
-ofThem n t (Release j tick s) = among n t j
-ofThem n t (Complete j tick) = among n t j
+ofThem n t e = hasJob (about e .role) && isOfThem n t (jobOf e)
 
 -- an answer but for the number that a completion woke, in which later requests count
 abbrev pub butNumber : Outcome Said → Outcome Said
@@ -59,7 +53,7 @@ pub record SameUpTo (n : ℕ) (t u : Table) (e : Event) : Type 0 where
   -- one of theirs is answered the same
   pub answered : ofThem n t e ≡ true → butNumber (answer jobs t e) ≡ butNumber (answer jobs u e)
   -- any event lists the same of them as woken, in the same order, and leaves them the same rows
-  pub listed : keep (among n (next jobs t e)) (lists t e) ≡ keep (among n (next jobs u e)) (lists u e)
+  pub listed : keep (isOfThem n (next jobs t e)) (lists t e) ≡ keep (isOfThem n (next jobs u e)) (lists u e)
   pub rows : upTo n (next jobs t e .rows) ≡ upTo n (next jobs u e .rows)
   -- so where it is taken on both tables or on neither, as one of theirs is, the tables agree again
   pub agree : taken t e ≡ taken u e → Agree n (next jobs t e) (next jobs u e)
@@ -69,8 +63,8 @@ pub record SameUpTo (n : ℕ) (t u : Table) (e : Event) : Type 0 where
 
 -- the two questions on two such tables: a report of one of them, and who of them is overdue
 pub record ToldAlike (n : ℕ) (t u : Table) : Type 0 where
-  pub reported : (j : ℕ) → among n t j ≡ true → report t j ≡ report u j
-  pub overdue : (tick : ℕ) → keep (among n t) (late t tick) ≡ keep (among n u) (late u tick)
+  pub reported : (j : ℕ) → isOfThem n t j ≡ true → report t j ≡ report u j
+  pub overdue : (tick : ℕ) → keep (isOfThem n t) (late t tick) ≡ keep (isOfThem n u) (late u tick)
 
 -- over any sequence of events, each taken on both tables or on neither, the tables agree
 unfoldable pub TakenAlike : Table → Table → List Event → Type 0
