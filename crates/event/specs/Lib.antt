@@ -1,4 +1,6 @@
 -- What the contracts of this crate say, and the laws of true time, refusals and events.
+pub mod AnswerLaws
+pub mod Answers
 pub mod Clock
 pub mod ClockLaws
 pub mod EventLaws
