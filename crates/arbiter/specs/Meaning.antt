@@ -185,7 +185,11 @@ overdueList t tick out = leaves (overdueCases (length out) t tick) out (over (la
 
 -- ---- Sequences of events
 
--- one event after another, each with a lent list that is long enough
-unfoldable pub run : Table → List Event → Table
-run t [] = t
-run t (e ∷ es) = run (next jobs t e) es
+-- one event after another, where an event leads from a table to the next
+unfoldable pub course : (Table → Event → Table) → Table → List Event → Table
+course leads t [] = t
+course leads t (e ∷ es) = course leads (leads t e) es
+
+-- each with a lent list that is long enough
+abbrev pub run : Table → List Event → Table
+run = course (next jobs)

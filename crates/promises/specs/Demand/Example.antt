@@ -16,12 +16,14 @@ use Rattle.rows.specs.Order.{ahead, claims, distinct, idle, inWay}
 use Rattle.rows.specs.Sweep.{settled, woken}
 use Rattle.rows.specs.declared.row.Row.{Row}
 use Rattle.arbiter.specs.Answers.{Said, saysWait, saysWoke}
-use Rattle.arbiter.specs.Meaning.{answer, next, run, startAnswer, startTable}
+use Rattle.arbiter.specs.Meaning.{answer, next, run, startAnswer, startTable, course, report}
 use Rattle.arbiter.specs.Sound.{sound, rowIn}
 use Rattle.arbiter.specs.declared.table.Table.{Table}
-use Rattle.promises.specs.Demand.Statement.{Demand3, Supposed, n, now, opened, p}
+use Rattle.promises.specs.Demand.Statement.{Demand3, Supposed, afterOpening, n, now, p}
 use Rattle.promises.specs.Demand.Holds.{demand3}
-use Rattle.promises.specs.History.Words.{leavings, lists}
+use Rattle.promises.specs.History.Words.{leavings, lists, leavingsOf, Arbiter, ours}
+use Rattle.arbiter.specs.declared.table.Report.{Report}
+use mathlib.Core.Bool.{Bool, true, false}
 
 -- the tick of that number
 abbrev pub at : ℕ → Tick
@@ -50,8 +52,8 @@ abbrev pub since : List Event
 since = Beat (at 3) ∷ Ask 3 (at 5) 2 ∷ Ask 6 (at 5) 5 ∷ Complete 1 (at 6) ∷ []
 
 -- something of this history, which starts with four tokens and six resources
-abbrev pub this {ℓ} : {A : Type ℓ} → (ℕ → ℕ → ℕ → ℕ → List Event → ℕ → Tick → ℕ → List Event → A) → A
-this f = f 4 6 4294967280 50 past 6 (at 4294967286) 37 (latecomer ∷ until ++ since)
+abbrev pub this {ℓ} : {A : Type ℓ} → (Arbiter → ℕ → ℕ → ℕ → ℕ → List Event → ℕ → Tick → ℕ → List Event → A) → A
+this f = f ours 4 6 4294967280 50 past 6 (at 4294967286) 37 (latecomer ∷ until ++ since)
 
 -- ---- Its tables, written out
 
@@ -98,23 +100,23 @@ set-waits =
 
 -- each leads to the next
 pub record Tables : Type 0 where
-  pub opens : next jobs (this opened) latecomer ≡ all-open
+  pub opens : next jobs (this afterOpening) latecomer ≡ all-open
   pub comes : run all-open until ≡ token-come
   pub waits : run token-come since ≡ set-waits
 
 pub tables : Tables
-unfolding startTable run next leaves first sound all distinct count ahead inWay below inside meet meets settled union
+unfolding startTable course next leaves first sound all distinct count ahead inWay below inside meet meets settled union
 tables = record { opens = refl; comes = refl; waits = refl }
 
 pub now-is : this now ≡ set-waits
-unfolding run
+unfolding course
 now-is =
     ap (λ (t : Table). run t (until ++ since)) (tables .opens) ∙ ap (λ (t : Table). run t since) (tables .comes) ∙ tables .waits
 
 -- ---- The hypotheses are met
 
 supposed : this Supposed
-unfolding startAnswer answer outcome startTable run next leaves first sound all distinct count ahead inWay below inside meet meets
+unfolding startAnswer answer outcome startTable course next leaves first sound all distinct count ahead inWay below inside meet meets
 supposed =
     let turn : this n ≡ 6 = refl in
     record { started = refl; accepted = refl; lives = ap (λ (t : Table). rowIn t 6 .turn .0) now-is ∙ sym turn }
@@ -143,7 +145,7 @@ pub record Shown : Type 0 where
   pub wakes : lists set-waits (Complete 2 (at 7)) ≡ 3 ∷ 6 ∷ []
 
 pub shown : Shown
-unfolding answers leavings gone answer outcome startTable run next leaves first sound all distinct count ahead inWay below inside meet meets settled union woken keep lined from place
+unfolding answers leavingsOf gone answer outcome startTable course next leaves first sound all distinct count ahead inWay below inside meet meets settled union woken keep lined from place
 shown =
     record {
       behind = refl;
@@ -154,3 +156,25 @@ shown =
       left = refl;
       wakes = refl;
     }
+
+-- ---- As far as it can be observed
+
+-- a report of job 6, whose turn is 6
+abbrev six : Bool → Bool → ℕ → ℕ → Outcome Report
+six token waiting ahead way =
+    fine (record { turn = record { 0 = 6 }; token = token; waiting = waiting; ahead = ahead; «in_way» = way })
+
+-- what an arbiter reports, lists and leaves along this history; a wrong one fails here
+pub record Observed (a : Arbiter) : Type 0 where
+  -- two completions are due; a refused one does not count, and after one there is no token
+  pub refused-one : a .report (a .next all-open (Complete 5 (at 1))) 6 ≡ six false true 5 2
+  pub one-gone : a .report (a .next all-open (Complete 4 (at 2))) 6 ≡ six false true 4 2
+  pub two-gone : a .report (course (a .next) all-open until) 6 ≡ six true false 3 2
+  -- one of the two in the way has completed; with the other the job is listed, and its set is held whole
+  pub three-gone : a .report set-waits 6 ≡ six true true 2 1
+  pub listed : a .lists set-waits (Complete 2 (at 7)) ≡ 3 ∷ 6 ∷ []
+  pub held : rowIn (a .next set-waits (Complete 2 (at 7))) 6 .held ≡ 5
+
+pub observed : Observed ours
+unfolding answer report next leaves outcome first sound all distinct count ahead inWay below inside meet meets settled union woken keep lined from place course
+observed = record { refused-one = refl; one-gone = refl; two-gone = refl; three-gone = refl; listed = refl; held = refl }

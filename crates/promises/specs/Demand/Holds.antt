@@ -13,19 +13,19 @@ use Rattle.laws.specs.CaseLaws.{acceptance-tells}
 use Rattle.laws.specs.Cases.{fine}
 use Rattle.laws.specs.Lists.{count}
 use Rattle.event.specs.Limits.{jobs}
-use Rattle.rows.specs.Order.{ahead, claims, earlier, idle, inWay, live}
+use Rattle.rows.specs.Order.{ahead, claims, earlier, idle, inWay, live, token}
 use Rattle.rows.specs.declared.row.Row.{Row}
-use Rattle.arbiter.specs.Answers as Answers
+use Rattle.arbiter.specs.Answers.{saysDone, saysToken, saysWait}
 use Rattle.arbiter.specs.Meaning.{report, reported, run, startAnswer, startTable}
 use Rattle.arbiter.specs.Refusals.{reportCases}
 use Rattle.arbiter.specs.declared.table.Report.{Report}
 use Rattle.arbiter.specs.declared.table.Table.{Table}
-use Rattle.promises.specs.Demand.Statement.{Demand3, Supposed, before, n, now, opened}
+use Rattle.promises.specs.Demand.Statement.{Demand3, Supposed, afterOpening, before, n, now}
 use Rattle.promises.specs.Demand.Others.{leavings-heeded, run-heeded, unmoved, way-bounded}
 use Rattle.promises.specs.Demand.Sets.{ask-granted, ask-has-token, ask-says}
 use Rattle.promises.specs.Demand.Token.{ahead-opened, all-before, along-opened, below-at-most, declared-opened, token-by-all, token-by-earlier, token-told}
 use Rattle.promises.specs.History.Events.{accepts}
-use Rattle.promises.specs.History.Words.{leavings, Along, Bears}
+use Rattle.promises.specs.History.Words.{leavings, Along, Bears, ours}
 use Rattle.promises.specs.History.Count.{along-run, way-run}
 use Rattle.promises.specs.History.Turn.{back-run}
 use Rattle.promises.specs.Kept.Soundness.{start-fresh, start-ranges}
@@ -36,7 +36,7 @@ use Rattle.arbiter.specs.Sound.{rowIn}
 
 -- ---- The start
 
-module _ (T R limit : ℕ) (started : startAnswer T R limit ≡ fine Answers.saysDone) where
+module _ (T R limit : ℕ) (started : startAnswer T R limit ≡ fine saysDone) where
   some-token : 1 ≤ T
   some-token = ranges-in T R limit (start-ranges T R limit started) .tokens .0
 
@@ -48,18 +48,18 @@ module _ (T R limit : ℕ) (started : startAnswer T R limit ≡ fine Answers.say
 -- ---- The theorem
 
 module _ (T R begin limit : ℕ) (past : List Event) (j : ℕ) (tick : Tick) (s : ℕ) (later : List Event)
-    (given : Supposed T R begin limit past j tick s later) where
+    (given : Supposed ours T R begin limit past j tick s later) where
   abbrev first-table : Table
-  first-table = before T R begin limit past j tick s later
+  first-table = before ours T R begin limit past j tick s later
 
   abbrev opened-table : Table
-  opened-table = opened T R begin limit past j tick s later
+  opened-table = afterOpening ours T R begin limit past j tick s later
 
   abbrev table : Table
-  table = now T R begin limit past j tick s later
+  table = now ours T R begin limit past j tick s later
 
   abbrev turn : ℕ
-  turn = n T R begin limit past j tick s later
+  turn = n ours T R begin limit past j tick s later
 
   -- the opening is refused by no case
   open-ok : Accepts jobs first-table (Open j tick s)
@@ -100,18 +100,33 @@ module _ (T R begin limit : ℕ) (past : List Event) (j : ℕ) (tick : Tick) (s 
       ap (λ (r : Report). r .«in_way») (sym is) ∙ (λ i. inWay (end .rows) (still i) (declares since still i)) in
       omega (arith, way-run table (bears .along) since s)
 
-  pub demand3 : Demand3 T R begin limit past j tick s later
+  token-comes : token T (table .rows) turn ≡ leb (count live (first-table .rows) - (T - 1)) (leavings live opened-table later)
+  token-comes =
+      token-by-all some opened-table along later
+      ∙ ap (λ (p : ℕ). leb (p - (T - 1)) (leavings live opened-table later)) behind
+
+  token-reported :
+      (r : Report) → report table j ≡ fine r →
+      r .token ≡ leb (count live (first-table .rows) - (T - 1)) (leavings live opened-table later)
+  unfolding report
+  token-reported r q =
+      let is : reported table (rowIn table j) ≡ r =
+      acceptance-tells {B = ℕ} (reportCases table j) (reported table (rowIn table j)) r q .1 in
+      ap (λ (r : Report). r .token) (sym is)
+      ∙ (λ i. token (bears .along .tokens i) (table .rows) (bears .turn i))
+      ∙ token-comes
+
+  pub demand3 : Demand3 ours T R begin limit past j tick s later
   demand3 =
       record {
         opening-says =
             answer-accepted jobs first-table (Open j tick s) open-ok
-            ∙ ap (λ (b : Bool). fine (cond b Answers.saysToken Answers.saysWait))
+            ∙ ap (λ (b : Bool). fine (cond b saysToken saysWait))
             ((λ i. ltb (all-before first-table along-past j tick s open-ok i) (along-past .tokens i))
             ∙ below-at-most (count live (first-table .rows)) T some);
-        token-comes =
-            token-by-all some opened-table along later
-            ∙ ap (λ (p : ℕ). leb (p - (T - 1)) (leavings live opened-table later)) behind;
-        token-told = λ e lacks. token-told bears lacks e;
+        token-comes = token-comes;
+        token-reported = token-reported;
+        token-listed = λ e lacks. token-told bears lacks e;
         ask-has-token = λ at x h. ask-has-token bears at x (accepts table (Ask j at x) h);
         ask-says = λ at x h. ask-says bears at x (accepts table (Ask j at x) h);
         ask-granted = λ at x h. ask-granted bears at x (accepts table (Ask j at x) h);

@@ -15,10 +15,10 @@ use Rattle.rows.specs.InWay.{in-way-ahead}
 use Rattle.event.specs.Limits.{jobs}
 use Rattle.rows.specs.Order.{ahead, idle, inWay, live, token, waiting}
 use Rattle.rows.specs.declared.row.Row.{Row}
-use Rattle.arbiter.specs.Meaning.{accepted, next, run, wakes}
+use Rattle.arbiter.specs.Meaning.{accepted, next, run, wakes, course}
 use Rattle.arbiter.specs.declared.table.Table.{Table}
 use Rattle.promises.specs.Demand.Statement.{Beside, Unmoved}
-use Rattle.promises.specs.History.Words.{heeded, leaving, leavings, taken, Along, Bears}
+use Rattle.promises.specs.History.Words.{heeded, leaving, leavings, taken, Along, Bears, leavingsOf, heededBy, ours}
 use Rattle.promises.specs.History.Events.{next-either}
 use Rattle.promises.specs.Kept.Changes.{ahead-accepted, changes, ends, left-by, lower-ahead, lower-way, way-accepted}
 use Rattle.promises.specs.History.Row.{row-after, swept-alike, swept-rests}
@@ -97,7 +97,7 @@ module _ {T n : ℕ} (t : Table) (along : Along T n t) (e : Event) (aside : Besi
           ∙ ap (λ (b : Bool). bit (waiting T (t .rows) (rowIn t i) && not b)) still
           ∙ ap bit (and-not-self (waiting T (t .rows) (rowIn t i)))
 
-  pub unmoved : Unmoved n t e
+  pub unmoved : Unmoved ours n t e
   unfolding count
   unmoved =
       record {
@@ -114,7 +114,7 @@ module _ {T n : ℕ} (t : Table) (along : Along T n t) (e : Event) (aside : Besi
 
 -- the accepted events alone lead to the same table
 pub run-heeded : (t : Table) (es : List Event) → run t (heeded t es) ≡ run t es
-unfolding run heeded
+unfolding course heededBy
 run-heeded t [] = refl
 run-heeded t (e ∷ es) =
     let rest = heeded (next jobs t e) es in
@@ -126,7 +126,7 @@ run-heeded t (e ∷ es) =
 
 -- and by them as many requests leave
 pub leavings-heeded : (f : Row → Bool) (t : Table) (es : List Event) → leavings f t (heeded t es) ≡ leavings f t es
-unfolding leavings heeded
+unfolding leavingsOf heededBy
 leavings-heeded f t [] = refl
 leavings-heeded f t (e ∷ es) =
     let rest = heeded (next jobs t e) es in

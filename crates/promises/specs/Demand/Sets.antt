@@ -17,11 +17,11 @@ use Rattle.event.specs.Limits.{jobs}
 use Rattle.rows.specs.Order.{ahead, blocked, inWay, token, waiting}
 use Rattle.rows.specs.declared.row.Row.{Row}
 use Rattle.arbiter.specs.Answers as Answers
-use Rattle.arbiter.specs.Meaning.{accepted, answer, next, run, wakes}
+use Rattle.arbiter.specs.Meaning.{accepted, answer, next, run, wakes, course}
 use Rattle.arbiter.specs.declared.table.Table.{Table}
-use Rattle.promises.specs.Demand.Statement.{Granted, Has}
+use Rattle.promises.specs.Demand.Statement.{AskedSet, Has}
 use Rattle.event.specs.Events.{names}
-use Rattle.promises.specs.History.Words.{lists, Along, Bears}
+use Rattle.promises.specs.History.Words.{lists, Along, Bears, ours}
 use Rattle.promises.specs.History.Events.{next-either}
 use Rattle.promises.specs.Kept.Changes.{ahead-accepted, alike-quiet}
 use Rattle.promises.specs.History.Count.{along-accepted, along-next, way-run}
@@ -131,7 +131,7 @@ blocked-back {n = n} t along x es q =
 waits-run :
     {T j n x h : ℕ} → 0 < x → {t : Table} → Waits T j n x h t → (es : List Event) → blocked (run t es .rows) n x ≡ true →
     Waits T j n x h (run t es)
-unfolding run
+unfolding course
 waits-run real w [] q = w
 waits-run {x = x} real {t} w (e ∷ es) q =
     let still = blocked-back (next jobs t e) (along-next (w .bears .along) e) x es q in
@@ -189,10 +189,10 @@ module _ {T n j : ℕ} {t : Table} (b : Bears T n j t) (tick : Tick) (x : ℕ) (
       let still = blocked-back asking (along-accepted (b .along) (Ask j tick x) ok) x more q in
       waits-run real (waits-first still) more q
 
-  pub ask-granted : Granted j n x (row .held) (next jobs t (Ask j tick x))
+  pub ask-granted : AskedSet ours j n x (row .held) (next jobs t (Ask j tick x))
   unfolding case
   ask-granted =
-      subst (Granted j n x (row .held)) (sym (next-accepted jobs t (Ask j tick x) ok))
+      subst (AskedSet ours j n x (row .held)) (sym (next-accepted jobs t (Ask j tick x) ok))
       (record {
         apart = passed jobs t (Ask j tick x) ok 14;
         at-once = λ q. (
@@ -201,5 +201,5 @@ module _ {T n j : ℕ} {t : Table} (b : Bears T n j t) (tick : Tick) (x : ℕ) (
         );
         waits = λ more q. (waits-while more q .held, waits-while more q .asked);
         then = λ more e q. granted-then real (waits-while more q) q e;
-        told = λ more e q. listed-then real (waits-while more q) q e;
+        listed = λ more e q. listed-then real (waits-while more q) q e;
       })

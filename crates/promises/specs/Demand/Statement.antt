@@ -11,37 +11,37 @@ use Rattle.laws.specs.Bools.{bit}
 use Rattle.laws.specs.Cases.{fine}
 use Rattle.laws.specs.Lists.{count}
 use Rattle.laws.specs.Sets.{meets, union}
-use Rattle.event.specs.Limits.{jobs}
 use Rattle.rows.specs.Order.{ahead, blocked, claims, earlier, inWay, live, token}
 use Rattle.rows.specs.declared.row.Row.{Row}
-use Rattle.arbiter.specs.Answers as Answers
-use Rattle.arbiter.specs.Meaning.{answer, next, report, run, startAnswer, startTable}
+use Rattle.arbiter.specs.Answers.{saysDone, saysGranted, saysToken, saysWait}
+use Rattle.arbiter.specs.Meaning.{course, startAnswer, startTable}
 use Rattle.arbiter.specs.declared.table.Report.{Report}
 use Rattle.arbiter.specs.declared.table.Table.{Table}
 use Rattle.event.specs.Events.{names}
-use Rattle.promises.specs.History.Words.{heeded, leavings, lists, taken}
+use Rattle.promises.specs.History.Words.{Arbiter, heededBy, leavingsOf, takes}
 use Rattle.arbiter.specs.Sound.{rowIn}
 
 -- job j holds the set h and asks for the set a
 abbrev pub Has : Table → ℕ → ℕ → ℕ → Type 0
 Has t j h a = (rowIn t j .held ≡ h) × (rowIn t j .asked ≡ a)
 
--- what becomes of the set x that job j's request of turn n, holding h, has asked for; t is the table right after the ask
-pub record Granted (j n x h : ℕ) (t : Table) : Type 0 where
+-- what becomes of the set x that job j's request of turn n, holding h, has asked an arbiter for; t is the table right after
+-- the ask
+pub record AskedSet (a : Arbiter) (j n x h : ℕ) (t : Table) : Type 0 where
   -- nothing of x is among h
   pub apart : meets x h ≡ false
   -- where no earlier-opened live request declares a member of x, the whole of x is held at once
   pub at-once : blocked (t .rows) n x ≡ false → Has t j (union h x) 0
   -- while one does, the whole of x stays asked, and nothing of it is held
-  pub waits : (more : List Event) → blocked (run t more .rows) n x ≡ true → Has (run t more) j h x
+  pub waits : (more : List Event) → blocked (course (a .next) t more .rows) n x ≡ true → Has (course (a .next) t more) j h x
   -- with the event after which none does, the whole of x is held
   pub then :
-      (more : List Event) (e : Event) → blocked (run t more .rows) n x ≡ true →
-      blocked (next jobs (run t more) e .rows) n x ≡ false → Has (next jobs (run t more) e) j (union h x) 0
+      (more : List Event) (e : Event) → blocked (course (a .next) t more .rows) n x ≡ true →
+      blocked (a .next (course (a .next) t more) e .rows) n x ≡ false → Has (a .next (course (a .next) t more) e) j (union h x) 0
   -- that event lists the job as woken, once, and none before it does
-  pub told :
-      (more : List Event) (e : Event) → blocked (run t more .rows) n x ≡ true →
-      count (eqb j) (lists (run t more) e) ≡ bit (not (blocked (next jobs (run t more) e .rows) n x))
+  pub listed :
+      (more : List Event) (e : Event) → blocked (course (a .next) t more .rows) n x ≡ true →
+      count (eqb j) (a .lists (course (a .next) t more) e) ≡ bit (not (blocked (a .next (course (a .next) t more) e .rows) n x))
 
 -- an event names no job whose live request has a turn up to n: it is a beat, an opening, or one of a later request
 abbrev pub Beside : ℕ → Table → Event → Type 0
@@ -49,23 +49,23 @@ Beside n t e = (i : ℕ) → live (rowIn t i) ≡ true → rowIn t i .turn .0 �
 
 -- to the requests of turn up to n an event at t changes nothing: neither their rows, nor who stands before them, nor what
 -- is in their way, and it lists none of them as woken
-pub record Unmoved (n : ℕ) (t : Table) (e : Event) : Type 0 where
-  pub row : (i : ℕ) → live (rowIn t i) ≡ true → rowIn t i .turn .0 ≤ n → rowIn (next jobs t e) i ≡ rowIn t i
-  pub unlisted : (i : ℕ) → live (rowIn t i) ≡ true → rowIn t i .turn .0 ≤ n → count (eqb i) (lists t e) ≡ 0
-  pub before : (k : ℕ) → k ≤ n → ahead (next jobs t e .rows) k ≡ ahead (t .rows) k
-  pub way : (k x : ℕ) → k ≤ n → inWay (next jobs t e .rows) k x ≡ inWay (t .rows) k x
+pub record Unmoved (a : Arbiter) (n : ℕ) (t : Table) (e : Event) : Type 0 where
+  pub row : (i : ℕ) → live (rowIn t i) ≡ true → rowIn t i .turn .0 ≤ n → rowIn (a .next t e) i ≡ rowIn t i
+  pub unlisted : (i : ℕ) → live (rowIn t i) ≡ true → rowIn t i .turn .0 ≤ n → count (eqb i) (a .lists t e) ≡ 0
+  pub before : (k : ℕ) → k ≤ n → ahead (a .next t e .rows) k ≡ ahead (t .rows) k
+  pub way : (k x : ℕ) → k ≤ n → inWay (a .next t e .rows) k x ≡ inWay (t .rows) k x
 
--- a start with T tokens, R resources, a tick and a limit; any events; an opening by job j; any events since
-module _ (T R begin limit : ℕ) (past : List Event) (j : ℕ) (tick : Tick) (s : ℕ) (later : List Event) where
+-- an arbiter; a start with T tokens, R resources, a tick and a limit; any events; an opening by job j; any events since
+module _ (a : Arbiter) (T R begin limit : ℕ) (past : List Event) (j : ℕ) (tick : Tick) (s : ℕ) (later : List Event) where
   -- the table when the request is opened, right after that, and now
   abbrev pub before : Table
-  before = run (startTable T R begin limit) past
+  before = course (a .next) (startTable T R begin limit) past
 
-  abbrev pub opened : Table
-  opened = next jobs before (Open j tick s)
+  abbrev pub afterOpening : Table
+  afterOpening = a .next before (Open j tick s)
 
   abbrev pub now : Table
-  now = run opened later
+  now = course (a .next) afterOpening later
 
   -- the request's turn, and how many other live ones it is opened behind
   abbrev pub n : ℕ
@@ -76,35 +76,37 @@ module _ (T R begin limit : ℕ) (past : List Event) (j : ℕ) (tick : Tick) (s 
 
   -- all that is supposed: the start and the opening are accepted, and the request is still live
   pub record Supposed : Type 0 where
-    pub started : startAnswer T R limit ≡ fine Answers.saysDone
-    pub accepted : taken before (Open j tick s) ≡ true
+    pub started : startAnswer T R limit ≡ fine saysDone
+    pub accepted : takes a before (Open j tick s) ≡ true
     pub lives : rowIn now j .turn .0 ≡ n
 
   -- what is promised; since `later` is any sequence, at every moment while the request is live
   pub record Demand3 : Type 0 where
     -- the token: at once if at most T-1 stand before it, else with the completion that leaves so few;
     -- that event lists the job as woken, once, and none before it does
-    pub opening-says : answer jobs before (Open j tick s) ≡ fine (cond (leb p (T - 1)) Answers.saysToken Answers.saysWait)
-    pub token-comes : token T (now .rows) n ≡ leb (p - (T - 1)) (leavings live opened later)
-    pub token-told :
+    pub opening-says : a .answer before (Open j tick s) ≡ fine (cond (leb p (T - 1)) saysToken saysWait)
+    pub token-comes : token T (now .rows) n ≡ leb (p - (T - 1)) (leavingsOf a live afterOpening later)
+    pub token-reported :
+        (r : Report) → a .report now j ≡ fine r → r .token ≡ leb (p - (T - 1)) (leavingsOf a live afterOpening later)
+    pub token-listed :
         (e : Event) → token T (now .rows) n ≡ false →
-        count (eqb j) (lists now e) ≡ bit (token T (next jobs now e .rows) n)
+        count (eqb j) (a .lists now e) ≡ bit (token T (a .next now e .rows) n)
     -- the sets: an accepted ask has the token, and waits just where an earlier-opened live request declares a member
-    pub ask-has-token : (at : Tick) (x : ℕ) → taken now (Ask j at x) ≡ true → token T (now .rows) n ≡ true
+    pub ask-has-token : (at : Tick) (x : ℕ) → takes a now (Ask j at x) ≡ true → token T (now .rows) n ≡ true
     pub ask-says :
-        (at : Tick) (x : ℕ) → taken now (Ask j at x) ≡ true →
-        answer jobs now (Ask j at x) ≡ fine (cond (blocked (now .rows) n x) Answers.saysWait Answers.saysGranted)
+        (at : Tick) (x : ℕ) → takes a now (Ask j at x) ≡ true →
+        a .answer now (Ask j at x) ≡ fine (cond (blocked (now .rows) n x) saysWait saysGranted)
     pub ask-granted :
-        (at : Tick) (x : ℕ) → taken now (Ask j at x) ≡ true →
-        Granted j n x (rowIn now j .held) (next jobs now (Ask j at x))
+        (at : Tick) (x : ℕ) → takes a now (Ask j at x) ≡ true →
+        AskedSet a j n x (rowIn now j .held) (a .next now (Ask j at x))
     -- in the way: at most T-1 once it has its token, and a later report gives that number less those of them that left
     pub way-bounded : token T (now .rows) n ≡ true → inWay (now .rows) n s ≤ T - 1
     pub way-reported :
-        (since : List Event) (r : Report) → report (run now since) j ≡ fine r → r .turn .0 ≡ n →
-        r .«in_way» + leavings (claims n s) now since ≡ inWay (now .rows) n s
+        (since : List Event) (r : Report) → a .report (course (a .next) now since) j ≡ fine r → r .turn .0 ≡ n →
+        r .«in_way» + leavingsOf a (claims n s) now since ≡ inWay (now .rows) n s
     -- no latecomer and no refused event has any part in it
-    pub token-by-earlier : token T (now .rows) n ≡ leb (p - (T - 1)) (leavings (earlier n) opened later)
-    pub later-unseen : (e : Event) → Beside n now e → Unmoved n now e
-    pub refused-before : run (startTable T R begin limit) (heeded (startTable T R begin limit) past) ≡ before
-    pub refused-since : run opened (heeded opened later) ≡ now
-    pub refused-uncounted : (f : Row → Bool) → leavings f opened (heeded opened later) ≡ leavings f opened later
+    pub token-by-earlier : token T (now .rows) n ≡ leb (p - (T - 1)) (leavingsOf a (earlier n) afterOpening later)
+    pub later-unseen : (e : Event) → Beside n now e → Unmoved a n now e
+    pub refused-before : course (a .next) (startTable T R begin limit) (heededBy a (startTable T R begin limit) past) ≡ before
+    pub refused-since : course (a .next) afterOpening (heededBy a afterOpening later) ≡ now
+    pub refused-uncounted : (f : Row → Bool) → leavingsOf a f afterOpening (heededBy a afterOpening later) ≡ leavingsOf a f afterOpening later

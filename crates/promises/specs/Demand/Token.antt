@@ -23,10 +23,10 @@ use Rattle.rows.specs.Order.{ahead, blocked, earlier, idle, live, token, waitin
 use Rattle.rows.specs.OrderLaws.{ahead-set}
 use Rattle.rows.specs.Turns.{turn-earlier}
 use Rattle.rows.specs.declared.row.Row.{Row}
-use Rattle.arbiter.specs.Meaning.{accepted, next, openedRow, run, timeAt, wakes}
+use Rattle.arbiter.specs.Meaning.{accepted, next, openedRow, run, timeAt, wakes, course}
 use Rattle.arbiter.specs.declared.table.Table.{Table}
 use Rattle.event.specs.Events.{names}
-use Rattle.promises.specs.History.Words.{leaving, leavings, lists, taken, Along, Bears}
+use Rattle.promises.specs.History.Words.{leaving, leavings, lists, taken, Along, Bears, leavingsOf}
 use Rattle.promises.specs.History.Events.{next-either}
 use Rattle.promises.specs.Kept.Changes.{changes, ends, left-by, lower-ahead, opening-live}
 use Rattle.promises.specs.History.Count.{ahead-run, along-accepted, along-next}
@@ -152,7 +152,7 @@ module _ {T n : ℕ} where
   all-earlier :
       (t : Table) → Along T n t → (es : List Event) → T ≤ ahead (run t es .rows) n →
       leavings live t es ≡ leavings (earlier n) t es
-  unfolding leavings run
+  unfolding leavingsOf course
   all-earlier t along [] lacks = refl
   all-earlier t along (e ∷ es) lacks =
       ap₂ _+_
@@ -179,7 +179,7 @@ module _ (n : ℕ) where
       go k (began _ _ _) q = q
 
   some-earlier : (t : Table) (es : List Event) → leavings (earlier n) t es ≤ leavings live t es
-  unfolding leavings
+  unfolding leavingsOf
   some-earlier t [] = omega arith
   some-earlier t (e ∷ es) =
       let step : cond (taken t e) (leaving (earlier n) t e) 0 ≤ cond (taken t e) (leaving live t e) 0 =

@@ -2,7 +2,7 @@
 use Prim.Native.Nat.{ℕ, _+_, _≤_}
 use mathlib.Core.Bool.{Bool, true, false, cond}
 use mathlib.Core.List.{List, [], _∷_}
-use mathlib.Core.Path.{_≡_, refl, _∙_}
+use mathlib.Core.Path.{_≡_, _∙_}
 use native.Mathlib.Nat.{zero-add}
 use native.Mathlib.Omega.{arith}
 use Rattle.event.specs.Events.{about, opens}
@@ -11,10 +11,10 @@ use Rattle.event.specs.declared.events.Event.{Event}
 use Rattle.laws.specs.Lists.{count, gone}
 use Rattle.rows.specs.Order.{ahead, claims, earlier, inWay}
 use Rattle.rows.specs.declared.row.Row.{Row}
-use Rattle.arbiter.specs.Meaning.{accepted, next, run}
+use Rattle.arbiter.specs.Meaning.{accepted, next, run, course}
 use Rattle.arbiter.specs.declared.table.Table.{Table}
 use Rattle.promises.specs.History.Events.{next-either}
-use Rattle.promises.specs.History.Words.{Along, leaving, leavings, taken}
+use Rattle.promises.specs.History.Words.{Along, leaving, leavings, taken, leavingsOf}
 use Rattle.promises.specs.Kept.Changes.{count-accepted, length-after, lower-ahead, lower-way}
 use Rattle.promises.specs.Kept.Words.{Accepts, Lower}
 
@@ -37,7 +37,7 @@ module _ {T n : ℕ} {t : Table} (along : Along T n t) where
   along-next e = next-either t e (λ b u. Along T n u) (along-accepted e) along
 
 pub along-run : {T n : ℕ} {t : Table} → Along T n t → (es : List Event) → Along T n (run t es)
-unfolding run
+unfolding course
 along-run along [] = along
 along-run along (e ∷ es) = along-run (along-next along e) es
 
@@ -54,7 +54,7 @@ module _ {n : ℕ} {f : Row → Bool} (low : Lower n f) where
 
   count-run :
       {T : ℕ} (t : Table) → Along T n t → (es : List Event) → leavings f t es + count f (run t es .rows) ≡ count f (t .rows)
-  unfolding leavings run
+  unfolding leavingsOf course
   count-run t along [] = zero-add _
   count-run t along (e ∷ es) = omega (arith, count-next t along e, count-run (next jobs t e) (along-next along e) es)
 

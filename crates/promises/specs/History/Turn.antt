@@ -7,7 +7,7 @@ use Rattle.event.specs.declared.events.Event.{Event}
 use Rattle.event.specs.Limits.{jobs}
 use Rattle.rows.specs.Order.{openingOf}
 use Rattle.rows.specs.declared.row.Row.{Row}
-use Rattle.arbiter.specs.Meaning.{accepted, next, run}
+use Rattle.arbiter.specs.Meaning.{accepted, next, run, course}
 use Rattle.arbiter.specs.declared.table.Table.{Table}
 use Rattle.promises.specs.History.Events.{next-either}
 use Rattle.promises.specs.History.Words.{Along}
@@ -34,7 +34,7 @@ module _ {T n : ℕ} (t : Table) (along : Along T n t) (some : 0 < n) (j : ℕ) 
 pub back-run :
     {T n : ℕ} (t : Table) → Along T n t → 0 < n → (j : ℕ) (es : List Event) → rowIn (run t es) j .turn .0 ≡ n →
     openingOf (rowIn (run t es) j) ≡ openingOf (rowIn t j)
-unfolding run
+unfolding course
 back-run t along some j [] q = refl
 back-run t along some j (e ∷ es) q =
     let rest = back-run (next jobs t e) (along-next along e) some j es q in

@@ -8,37 +8,65 @@ use Rattle.laws.specs.Lists.{gone}
 use Rattle.laws.specs.Cases.{Outcome, refused, fine}
 use Rattle.event.specs.Limits.{jobs}
 use Rattle.rows.specs.declared.row.Row.{Row}
-use Rattle.arbiter.specs.Meaning.{answer, next, wakes}
+use Rattle.arbiter.specs.Meaning.{answer, next, wakes, report}
 use Rattle.arbiter.specs.declared.table.Table.{Table}
 use Rattle.arbiter.specs.Sound.{rowIn}
 use lib.ListN.{length}
+use Rattle.arbiter.specs.Answers.{Said}
+use Rattle.arbiter.specs.declared.table.Report.{Report}
 
 -- an answer is no refusal
 abbrev pub isFine : {A : Type 0} → Outcome A → Bool
 isFine (refused n) = false
 isFine (fine a) = true
 
--- an event is accepted
-abbrev pub taken : Table → Event → Bool
-taken t e = isFine (answer jobs t e)
-
 -- the jobs that an event lists as woken; a refused one lists none
 abbrev pub lists : Table → Event → List ℕ
-lists t e = cond (taken t e) (wakes t e) []
+lists t e = cond (isFine (answer jobs t e)) (wakes t e) []
+
+-- an arbiter, as far as demand 3 looks at one: what an event is answered, to which table it leads, whom it lists as woken,
+-- and what is reported of a job
+pub record Arbiter : Type 0 where
+  pub answer : Table → Event → Outcome Said
+  pub next : Table → Event → Table
+  pub lists : Table → Event → List ℕ
+  pub report : Table → ℕ → Outcome Report
+
+-- ours, as the meanings say it
+abbrev pub ours : Arbiter
+ours = record { answer = answer jobs; next = next jobs; lists = lists; report = report }
+
+-- an event is accepted
+abbrev pub takes : Arbiter → Table → Event → Bool
+takes a t e = isFine (a .answer t e)
 
 -- how many rows pass f before an event and not after it
-abbrev pub leaving : (Row → Bool) → Table → Event → ℕ
-leaving f t e = gone f (t .rows) (next jobs t e .rows)
+abbrev pub leavingOf : Arbiter → (Row → Bool) → Table → Event → ℕ
+leavingOf a f t e = gone f (t .rows) (a .next t e .rows)
 
--- how many requests whose row passes f leave in the course of events: `leavings live` are all accepted completions
-unfoldable pub leavings : (Row → Bool) → Table → List Event → ℕ
-leavings f t [] = 0
-leavings f t (e ∷ es) = cond (taken t e) (leaving f t e) 0 + leavings f (next jobs t e) es
+-- how many rows pass f before an accepted event and not after it, over a whole sequence of events: `leavingsOf a live` are
+-- all accepted completions
+unfoldable pub leavingsOf : Arbiter → (Row → Bool) → Table → List Event → ℕ
+leavingsOf a f t [] = 0
+leavingsOf a f t (e ∷ es) = cond (takes a t e) (leavingOf a f t e) 0 + leavingsOf a f (a .next t e) es
 
 -- the accepted ones of a sequence of events
-unfoldable pub heeded : Table → List Event → List Event
-heeded t [] = []
-heeded t (e ∷ es) = cond (taken t e) (e ∷ heeded (next jobs t e) es) (heeded (next jobs t e) es)
+unfoldable pub heededBy : Arbiter → Table → List Event → List Event
+heededBy a t [] = []
+heededBy a t (e ∷ es) = cond (takes a t e) (e ∷ heededBy a (a .next t e) es) (heededBy a (a .next t e) es)
+
+-- the same of ours
+abbrev pub taken : Table → Event → Bool
+taken = takes ours
+
+abbrev pub leaving : (Row → Bool) → Table → Event → ℕ
+leaving = leavingOf ours
+
+abbrev pub leavings : (Row → Bool) → Table → List Event → ℕ
+leavings = leavingsOf ours
+
+abbrev pub heeded : Table → List Event → List Event
+heeded = heededBy ours
 
 -- ---- What every table of a history keeps
 

@@ -15,7 +15,7 @@ use Rattle.event.specs.Limits.{jobs}
 use Rattle.rows.specs.Order.{idle}
 use Rattle.rows.specs.declared.row.Row.{Row}
 use Rattle.arbiter.specs.Answers as Answers
-use Rattle.arbiter.specs.Meaning.{accepted, answer, freshTable, late, next, noTable, overdue, report, reported, run, said, startAnswer, startTable}
+use Rattle.arbiter.specs.Meaning.{accepted, answer, freshTable, late, next, noTable, overdue, report, reported, run, said, startAnswer, startTable, course}
 use Rattle.arbiter.specs.Refusals.{Call, calling, applies, cases, listCases, startCases}
 use Rattle.event.specs.Events.{about, asked, jobOf, setOf, tickOf}
 use Rattle.event.specs.Clock.{clockRefusals}
@@ -52,7 +52,7 @@ next-sound n t e p = left-with (λ u. sound u ≡ true) (cases n t e) t (accepte
 
 -- so does any sequence of events
 pub events-sound : (t : Table) (es : List Event) → sound t ≡ true → sound (run t es) ≡ true
-unfolding run
+unfolding course
 events-sound t [] p = p
 events-sound t (e ∷ es) p = events-sound (next jobs t e) es (next-sound jobs t e p)
 

@@ -16,7 +16,7 @@ use Rattle.event.specs.Limits.{jobs}
 use Rattle.rows.specs.Order.{earlier, idle}
 use Rattle.rows.specs.Sweep.{woken}
 use Rattle.rows.specs.Turns.{earlier-turn, turn-earlier}
-use Rattle.arbiter.specs.Meaning.{accepted, next, run, wakes}
+use Rattle.arbiter.specs.Meaning.{accepted, next, wakes, course}
 use Rattle.arbiter.specs.declared.table.Table.{Table}
 use Rattle.promises.specs.Demand.Statement.{Beside}
 use Rattle.promises.specs.Demand.Others.{unmoved}
@@ -39,7 +39,7 @@ refused-stays t e = next-either t e (λ b u. b ≡ false → u ≡ t) (λ ok q. 
 module _ {T n : ℕ} (t : Table) (along : Along T n t) (e : Event) where
   -- whoever is among them after an event was before it
   back-among : (i : ℕ) → isOfThem n (next jobs t e) i ≡ true → isOfThem n t i ≡ true
-  unfolding run
+  unfolding course
   back-among i q =
       let p = earlier-turn (n + 1) (rowIn (next jobs t e) i) q in
       let k = rowIn (next jobs t e) i .turn .0 in

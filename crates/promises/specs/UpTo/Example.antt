@@ -10,10 +10,10 @@ use Rattle.laws.specs.Lists.{all, count}
 use Rattle.laws.specs.Sets.{below, inside, meet, meets}
 use Rattle.event.specs.Limits.{jobs}
 use Rattle.rows.specs.Order.{ahead, distinct, inWay}
-use Rattle.arbiter.specs.Meaning.{next, run, startTable}
+use Rattle.arbiter.specs.Meaning.{next, startTable, course}
 use Rattle.arbiter.specs.Sound.{sound}
 use Rattle.arbiter.specs.declared.table.Table.{Table}
-use Rattle.promises.specs.Demand.Statement.{opened}
+use Rattle.promises.specs.Demand.Statement.{afterOpening}
 use Rattle.promises.specs.Demand.Example.{all-open, at, this}
 use Rattle.promises.specs.History.Words.{Along}
 use Rattle.promises.specs.UpTo.Statement.{Agree, SameUpTo}
@@ -21,23 +21,23 @@ use Rattle.promises.specs.UpTo.Holds.{up-to-decides}
 
 -- the table where 7 has not opened
 abbrev without : Table
-without = next jobs (this opened) (Beat (at 4294967290))
+without = next jobs (this afterOpening) (Beat (at 4294967290))
 
 agree : Agree 6 all-open without
-unfolding startTable run next leaves first sound all distinct count ahead inWay below inside meet meets
+unfolding startTable course next leaves first sound all distinct count ahead inWay below inside meet meets
 agree = record { tokens = refl; resources = refl; limit = refl; time = refl; rows = refl }
 
 along : Along 4 6 all-open
 along = record { wide = refl; tokens = refl; given = omega arith }
 
 along-without : Along 4 6 without
-unfolding startTable run next leaves first sound all distinct count ahead inWay below inside meet meets
+unfolding startTable course next leaves first sound all distinct count ahead inWay below inside meet meets
 along-without =
     let last : without .last .0 ≡ 6 = refl in
     record { wide = refl; tokens = refl; given = omega (arith, last) }
 
 both-sound : (sound all-open ≡ true) × (sound without ≡ true)
-unfolding startTable run next leaves first sound all distinct count ahead inWay below inside meet meets
+unfolding startTable course next leaves first sound all distinct count ahead inWay below inside meet meets
 both-sound = (refl, refl)
 
 pub latecomer-unseen : (e : Event) → SameUpTo 6 all-open without e

@@ -30,7 +30,7 @@ use Rattle.promises.specs.UpTo.Rows.{set-up-to, settled-up-to}
 use Rattle.promises.specs.UpTo.Same.{but-number, fine-but-number, same-blocked, same-cases, same-of, same-open, same-report, same-row, same-time}
 use Rattle.arbiter.specs.Refusals.{cases, listCases}
 use Rattle.arbiter.specs.Answers.{saysDone, saysGranted, saysWait, saysWoke}
-use Rattle.arbiter.specs.Meaning.{accepted, answer, lastAfter, lateAt, lateJob, moved, next, releasedRow, rowAfter, rowsAfter, rowsWith, run, timeAt, wakes}
+use Rattle.arbiter.specs.Meaning.{accepted, answer, lastAfter, lateAt, lateJob, moved, next, releasedRow, rowAfter, rowsAfter, rowsWith, run, timeAt, wakes, course}
 use Rattle.event.specs.Events.{about, asked, hasJob, jobOf, setOf, tickOf}
 use Rattle.event.specs.Refusals.{among}
 use Rattle.event.specs.declared.refusal.Refusal.the-variants.{TurnsSpent}
@@ -167,7 +167,7 @@ up-to-tells {n} {t} {u} sound-t sound-u a =
 pub up-to-agrees :
     {T n : ℕ} {t u : Table} → Along T n t → Along T n u → sound t ≡ true → sound u ≡ true → Agree n t u → (es : List Event) →
     TakenAlike t u es → Agree n (run t es) (run u es)
-unfolding run TakenAlike
+unfolding course TakenAlike
 up-to-agrees along-t along-u sound-t sound-u a [] alike = a
 up-to-agrees {t = t} {u = u} along-t along-u sound-t sound-u a (e ∷ es) alike =
     up-to-agrees (along-next along-t e) (along-next along-u e) (next-sound jobs t e sound-t) (next-sound jobs u e sound-u)
