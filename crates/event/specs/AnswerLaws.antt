@@ -1,22 +1,13 @@
--- What a promise says determines what is answered: what two calls that keep it hand back is the same.
+-- What the clock promises determines its answer.
 use Prim.Native.Nat.{ℕ}
-use mathlib.Core.Path.{_≡_, refl, sym, ap, _∙_}
+use mathlib.Core.Path.{_≡_, refl, ap}
 use Rattle.laws.specs.Cases.{Outcome}
 use Rattle.event.specs.Answers.{answerBy}
 use Rattle.event.specs.Clock.{momentOf}
 use Rattle.event.specs.RefusalLaws.{refusalOf-numberOf}
 use Rattle.event.specs.declared.clock.Moment.{Moment}
 use Rattle.event.specs.declared.clock.Moment.the-variants as Moments
-
--- a promise that the result equals a definition determines it, whatever the definition
-pub determined : {A : Type 0} {x r r′ : A} → r ≡ x → r′ ≡ x → r ≡ r′
-determined p q = p ∙ sym q
-
--- what can be read back is told apart
-pub told-apart :
-    {A B : Type 0} (says : A → B) (back : B → A) → ((a : A) → back (says a) ≡ a) → {a a′ : A} {b : B} → says a ≡ b → says a′ ≡ b →
-    a ≡ a′
-told-apart says back reads {a} {a′} p q = sym (reads a) ∙ ap back (determined p q) ∙ reads a′
+use Rattle.laws.specs.Determined.{told-apart}
 
 -- what the clock gives: the next true time or a refusal
 moment-said : (m : Moment) → answerBy Moments.No Moments.At (momentOf m) ≡ m

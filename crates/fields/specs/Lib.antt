@@ -1,4 +1,5 @@
 -- Values of given widths in a row of bits, and the row in bytes.
+pub mod Determined
 pub mod DigitLaws
 pub mod Digits
 pub mod FieldLaws

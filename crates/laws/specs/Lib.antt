@@ -4,6 +4,7 @@ pub mod Bools
 pub mod CaseLaws
 pub mod Cases
 pub mod Counts
+pub mod Determined
 pub mod Front
 pub mod FrontLaws
 pub mod GoneLaws

@@ -2,5 +2,6 @@
 pub mod Demand
 pub mod History
 pub mod Kept
+pub mod Sessions
 pub mod Sound
 pub mod UpTo

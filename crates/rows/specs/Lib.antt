@@ -1,4 +1,5 @@
 -- What is said of rows: document 01, "What a table holds" and "The events".
+pub mod Determined
 pub mod InLine
 pub mod InWay
 pub mod Known
