@@ -6,7 +6,7 @@ use mathlib.Core.Path.{_≡_}
 use Rattle.event.specs.declared.events.Entry.{Entry}
 use Rattle.event.specs.declared.events.Event.{Event}
 use Rattle.laws.specs.Cases.{Outcome, fine, refused}
-use Rattle.record.specs.Format.{left, wrote}
+use Rattle.record.specs.Format.{roomAfter, writeAnswer}
 use Rattle.arbiter.specs.Answers.{Said, saysDone, saysGranted, saysToken, saysWait, saysWoke}
 use Rattle.arbiter.specs.Meaning.{answer, next}
 use Rattle.arbiter.specs.declared.table.Report.{Report}
@@ -44,7 +44,7 @@ eventInNumbers o t = record { refusal = refusalIn o; said = saidIn o; woken = wo
 
 -- the report where there is none
 abbrev pub noReport : Report
-noReport = record { turn = record { 0 = 0 }; saysToken = false; waiting = false; ahead = 0; in_way = 0 }
+noReport = record { turn = record { 0 = 0 }; token = false; waiting = false; ahead = 0; in_way = 0 }
 
 -- the report that was given
 abbrev pub reportIn : Outcome Report → Report
@@ -70,5 +70,5 @@ eventTold n t e = eventInNumbers (answer n t e) (next n t e)
 
 -- writing e into the room `before` answered r and left `after` there
 pub record Recorded (e : Entry) (before : List ℕ) (r : ℕ) (after : List ℕ) : Type 0 where
-  pub answers : r ≡ refusalIn (wrote e before)
-  pub leaves : after ≡ left e before
+  pub answers : r ≡ refusalIn (writeAnswer e before)
+  pub leaves : after ≡ roomAfter e before
