@@ -15,13 +15,15 @@ use Rattle.laws.specs.Reads.{Reads}
 use Rattle.laws.specs.ReadsLaws.{reading, reads-not}
 use Rattle.laws.specs.Sets.{below, inside, member}
 use Rattle.laws.specs.SetLaws.{below-reads, empty, inside-reads, meets-reads, some-member}
-use Rattle.rows.specs.InWay.{InTheWay, in-way-at, in-way-some}
+use Rattle.rows.specs.Propositions.{InTheWay}
+use Rattle.rows.specs.InWay.{in-way-at, in-way-some}
 use Rattle.rows.specs.Line.{rowOf}
 use Rattle.rows.specs.Order.{blocked, inWay}
 use Rattle.rows.specs.declared.row.Row.{Row}
 use Rattle.arbiter.specs.Refusals.{cases}
 use Rattle.arbiter.specs.Verdicts.{setCases}
-use Rattle.laws.specs.HoldLaws.{_and_, hold, none, nth}
+use Rattle.laws.specs.Chains.{_and_, none}
+use Rattle.laws.specs.HoldLaws.{hold, nth}
 use Rattle.laws.specs.Members.{Above, Apart, Beyond, None, Shared, Some, Under, Within}
 use Rattle.arbiter.specs.OwnRow.{OwnRow}
 use Rattle.arbiter.specs.Sound.{ownConditions}

@@ -5,7 +5,8 @@ use mathlib.Core.Path.{_≡_, refl, sym, ap, _∙_}
 use native.Mathlib.Omega.{arith}
 use borrow.Author.Tests.{le-ltb, lt-leb}
 use Rattle.laws.specs.Cases.{fine}
-use Rattle.laws.specs.CaseLaws.{outcome-is, acceptance-tells, none, past}
+use Rattle.laws.specs.CaseLaws.{outcome-is, acceptance-tells}
+use Rattle.laws.specs.Chains.{none, past}
 use Rattle.event.specs.Limits.{highest}
 use Rattle.event.specs.Clock.{difference, clockCases, forward, forwards, Often, ended, then}
 

@@ -9,14 +9,9 @@ use borrow.Author.Tests.{ltb-true, eqb-true, eq-eqb, ne-eqb}
 use lib.Dec.{ltb, eqb}
 use Rattle.laws.specs.BoolLaws.{and-left, and-right}
 use Rattle.laws.specs.Cases.{Case, when, first, ascends, case, Outcome, refused, fine, unless, outcome, keepUnless, leaves, positive}
+use Rattle.laws.specs.Chains.{First, none, this, past}
 
 -- ---- The first, step by step: what a chain of tests has found
-
--- the first that applies is numbered so: there is none, it is this one, or this one is passed over
-pub data First : List Case → ℕ → Type 0 where
-  none : First [] 0
-  this : {n : ℕ} {b : Bool} {cs : List Case} → b ≡ true → First (when n b ∷ cs) n
-  past : {n m : ℕ} {b : Bool} {cs : List Case} → b ≡ false → First cs m → First (when n b ∷ cs) m
 
 pub first-is : {cs : List Case} {n : ℕ} → First cs n → n ≡ first cs
 unfolding first

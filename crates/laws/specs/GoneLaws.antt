@@ -1,8 +1,8 @@
 -- Who has gone: how many pass a test before and not after, and how that moves the count of those who pass.
-use Prim.Native.Nat.{ℕ, zero, suc, _+_, _≤_}
-use mathlib.Core.Bool.{Bool, true, false, not, _&&_, and-not-self}
+use Prim.Native.Nat.{ℕ, suc, _+_, _≤_}
+use mathlib.Core.Bool.{Bool, true, false, not, _&&_}
 use mathlib.Core.List.{List, [], _∷_}
-use mathlib.Core.Path.{_≡_, refl, sym, ap, _∙_}
+use mathlib.Core.Path.{_≡_, refl, sym, _∙_}
 use native.Mathlib.Nat.{le-antisymm}
 use native.Mathlib.Omega.{arith}
 use lib.ListN.{getD, length}
@@ -55,7 +55,3 @@ module _ {A : Type 0} (d : A) where
   gone-none f [] m each = refl
   gone-none f (x ∷ l) [] each = refl
   gone-none f (x ∷ l) (y ∷ m) each = rw (each 0, gone-none f l m (λ k. each (suc k)))
-
-  -- from a list to itself nobody has
-  pub gone-self : (f : A → Bool) (l : List A) → gone f l l ≡ 0
-  gone-self f l = gone-none f l l (λ k. and-not-self (f (getD l k d)))

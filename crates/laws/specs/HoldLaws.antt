@@ -1,18 +1,13 @@
 -- Conditions that all hold, one by one and by their places.
 use Prim.Native.Nat.{ℕ}
 use mathlib.Core.Bool.{Bool, true}
-use mathlib.Core.List.{List, [], _∷_}
+use mathlib.Core.List.{List}
 use mathlib.Core.Path.{_≡_, refl}
 use lib.ListN.{getD}
 use Rattle.laws.specs.Counts.{all-each}
 use Rattle.laws.specs.Lists.{all, holds}
+use Rattle.laws.specs.Chains.{Hold, none, _and_}
 
--- conditions that hold, one by one
-pub data Hold : List Bool → Type 0 where
-  none : Hold []
-  _and_ : {b : Bool} {bs : List Bool} → b ≡ true → Hold bs → Hold (b ∷ bs)
-
-infixr 5 _and_
 pub hold : {bs : List Bool} → Hold bs → holds bs ≡ true
 unfolding all
 hold none = refl

@@ -3,6 +3,7 @@ pub mod BoolLaws
 pub mod Bools
 pub mod CaseLaws
 pub mod Cases
+pub mod Chains
 pub mod Counts
 pub mod Determined
 pub mod Front

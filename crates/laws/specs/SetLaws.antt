@@ -3,13 +3,13 @@ use Prim.Native.Nat.{ℕ, zero, suc, _+_, _-_, _/_, _%_, _^_, _≤_, _<_}
 use mathlib.Core.Bool.{Bool, true, false, not, xor, _&&_, _||_, true≢false, and-eq-true-iff, or-false, and-self, or-self, and-assoc, or-assoc, and-comm, or-comm, and-or-distrib-left, and-self-left}
 use mathlib.Core.Logic.{_↔_}
 use mathlib.Core.Path.{_≡_, refl, sym, ap, _∙_}
-use native.Mathlib.Nat.{mod-lt, zero-div, div-eq-of-lt, le-div-iff-mul-le, le-add-right, add-sub-of-le, lt-of-lt-of-le}
+use native.Mathlib.Nat.{mod-lt, zero-div, div-eq-of-lt, le-div-iff-mul-le, le-add-right, add-sub-of-le}
 use native.Mathlib.Omega.{arith}
 use borrow.Author.Tests.{eqb-true, eqb-false, ltb-true, ltb-false, eq-eqb, lt-ltb, ne-eqb, not-true}
 use lib.Arith.{bin-ind, le-zero}
 use lib.Bits.{bitAnd, bitOr, bitXor, and-shr, or-shr, xor-shr, and-mod, or-mod, xor-mod, and-le-l, and-le-r, or-add-and, xor-add-and}
 use lib.Dec.{eqb, ltb}
-use lib.Pow.{pow-pos, pow-mono, shr-shr}
+use lib.Pow.{pow-pos, shr-shr}
 use Rattle.laws.specs.Reads.{Reads}
 use Rattle.laws.specs.ReadsLaws.{reading}
 use Rattle.laws.specs.Sets.{member, meet, union, without, meets, inside, below}
@@ -260,15 +260,6 @@ meets-inside s t u p q = meets-reads s u .fails .1 (λ a m. meets-reads t u .fai
 
 -- ---- Range
 
-pub meet-le : (s t : ℕ) → meet s t ≤ s
-unfolding meet
-meet-le = and-le-l
-
 pub without-le : (s t : ℕ) → without s t ≤ s
 unfolding without
 without-le s t = omega arith
-
--- a set of k bits is below every r from k on
-pub below-wide : (k s r : ℕ) → s < 2 ^ k → k ≤ r → below s r ≡ true
-unfolding below
-below-wide k s r h g = lt-ltb s (2 ^ r) (lt-of-lt-of-le h (pow-mono g))

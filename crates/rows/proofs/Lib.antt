@@ -1,2 +1,3 @@
 -- Laws that the proofs of single functions need.
+pub mod Places
 pub mod Seen

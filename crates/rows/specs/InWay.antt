@@ -12,15 +12,7 @@ use Rattle.rows.specs.Line.{rowOf}
 use Rattle.rows.specs.Order.{ahead, claims, earlier, idle, inWay}
 use Rattle.rows.specs.declared.row.Row.{Row}
 use Rattle.rows.specs.Turns.{earlier-turn, turn-earlier}
-
--- somebody in the way of turn n at set s: a live row of lower turn that declares a member of s
-pub record InTheWay (rows : List Row) (n s : ℕ) : Type 0 where
-  pub job : ℕ
-  pub alive : 0 < rowOf rows job .turn .0
-  pub before : rowOf rows job .turn .0 < n
-  pub resource : ℕ
-  pub declared : member (rowOf rows job .declared) resource ≡ true
-  pub wanted : member s resource ≡ true
+use Rattle.rows.specs.Propositions.{InTheWay}
 
 module _ (rows : List Row) (n : ℕ) where
   -- where the number in the way is above 0, here is one of them; and back

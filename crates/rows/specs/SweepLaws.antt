@@ -1,15 +1,13 @@
 -- Laws of the sweep: it changes no turn and no declared set.
 use Prim.Native.Nat.{ℕ}
-use mathlib.Core.Bool.{Bool}
 use mathlib.Core.List.{List, map}
 use mathlib.Core.Path.{_≡_, refl, sym, ap, _∙_}
 use lib.ListN.{List·getD-map, getD, length, length-map}
 use Rattle.laws.specs.BoolLaws.{either}
-use Rattle.laws.specs.Lists.{count}
 use Rattle.laws.specs.Sets.{union}
 use Rattle.rows.specs.Line.{rowOf}
 use Rattle.rows.specs.Order.{ahead, blocked, distinct, idle, inWay, openingOf, waiting}
-use Rattle.rows.specs.OrderLaws.{ahead-map, count-kept, distinct-map, in-way-map}
+use Rattle.rows.specs.OrderLaws.{ahead-map, distinct-map, in-way-map}
 use Rattle.rows.specs.declared.row.Row.{Row}
 use Rattle.rows.specs.Sweep.{grantedRow, restedRow, sweptRow, settled}
 
@@ -38,11 +36,6 @@ module _ (T : ℕ) (rows : List Row) where
   pub length-settled : length (settled T rows) ≡ length rows
   unfolding settled
   length-settled = length-map rows (sweptRow T rows)
-
-  -- so many rows pass a test that looks at no more than these two
-  pub count-settled : (g : Row → Bool) → ((r : Row) → g (openingOf r) ≡ g r) → count g (settled T rows) ≡ count g rows
-  unfolding settled
-  count-settled = count-kept (sweptRow T rows) swept-keeps rows
 
   pub ahead-settled : (n : ℕ) → ahead (settled T rows) n ≡ ahead rows n
   unfolding settled

@@ -20,6 +20,7 @@ use Rattle.laws.specs.ReadsLaws.{reading}
 use Rattle.rows.specs.Line.{rowOf}
 use Rattle.rows.specs.Order.{ahead, alone, bears, distinct, earlier, idle, live, waiting}
 use Rattle.rows.specs.declared.row.Row.{Row}
+use Rattle.rows.specs.Propositions.{Distinct}
 
 -- a live row is one of the rows
 pub live-within : (rows : List Row) (j : ℕ) → 0 < rowOf rows j .turn .0 → j < length rows
@@ -82,10 +83,6 @@ waiting-reads T rows r h = rw (lt-ltb 0 (r .turn .0) h) (go (ahead rows (r .turn
         none false e w = absurd (true≢false w)
 
 -- ---- Distinct turns
-
--- no two live rows share a turn
-abbrev pub Distinct : List Row → Type 0
-Distinct rows = (j k : ℕ) → 0 < rowOf rows j .turn .0 → rowOf rows j .turn .0 ≡ rowOf rows k .turn .0 → j ≡ k
 
 -- with a live row taken out, its turn is borne once less
 others :

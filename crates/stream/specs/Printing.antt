@@ -1,10 +1,8 @@
 -- What printing through a lent room promises.
 use Prim.Native.Nat.{ℕ, _+_, _<_, _≤_}
-use mathlib.Core.Bool.{Bool, true, false, cond}
+use mathlib.Core.Bool.{cond}
 use mathlib.Core.List.{List}
-use mathlib.Core.Path.{_≡_, refl}
-use native.Mathlib.Omega.{arith}
-use borrow.Author.Tests.{leb-true}
+use mathlib.Core.Path.{_≡_}
 use lib.Dec.{leb}
 use lib.ListN.{length}
 use Rattle.laws.specs.Front.{Wrote}
@@ -29,10 +27,3 @@ pub record Printed (before : List ℕ) (out : Out) (bytes : List ℕ) (r : Out) 
   pub waits : length bytes ≤ length before → Wrote before (placeFor (length before) (out .at) (length bytes)) bytes (r .at) after
   pub straight : length before < length bytes → (r .at ≡ 0) × (after ≡ before)
   pub kept : out .failures ≤ r .failures
-
-pub place-fits : (size at n : ℕ) → n ≤ size → placeFor size at n + n ≤ size
-place-fits size at n h = go (leb (at + n) size) refl
-  where
-    go : (b : Bool) → leb (at + n) size ≡ b → cond b at 0 + n ≤ size
-    go true e = leb-true (at + n) size e
-    go false e = omega arith

@@ -13,7 +13,8 @@ use Rattle.laws.specs.CaseLaws.{acceptance-tells}
 use Rattle.laws.specs.Cases.{case, fine}
 use Rattle.laws.specs.Sets.{inside, member, without}
 use Rattle.laws.specs.SetLaws.{inside-reads, inside-trans, meets-reads, member-without}
-use Rattle.rows.specs.InWay.{InTheWay, in-way-at}
+use Rattle.rows.specs.Propositions.{InTheWay}
+use Rattle.rows.specs.InWay.{in-way-at}
 use Rattle.event.specs.Limits.{jobs}
 use Rattle.rows.specs.Order.{blocked, idle, inWay, token}
 use Rattle.rows.specs.Turns.{live-within}

@@ -14,7 +14,8 @@ use Rattle.event.specs.declared.clock.Tick.{Tick}
 use Rattle.event.specs.declared.events.Event.{Event}
 use Rattle.event.specs.declared.events.Event.the-variants.{Release}
 use Rattle.laws.specs.BoolLaws.{and-right}
-use Rattle.rows.specs.LineLaws.{Each, each-head, each-tail}
+use Rattle.rows.specs.Propositions.{Each}
+use Rattle.rows.specs.LineLaws.{each-head, each-tail}
 use Rattle.rows.specs.Line.{keep, line, rowOf}
 use Rattle.rows.specs.Order.{idle, waiting}
 use Rattle.rows.specs.SweepLaws.{row-settled}

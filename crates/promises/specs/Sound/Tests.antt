@@ -14,7 +14,8 @@ use Rattle.laws.specs.Lists.{all, holds}
 use Rattle.rows.specs.Order.{distinct, idle, live, waiting}
 use Rattle.rows.specs.Turns.{distinct-rows, distinct-test, waiting-reads}
 use Rattle.rows.specs.declared.row.Row.{Row}
-use Rattle.laws.specs.HoldLaws.{_and_, hold, none, nth}
+use Rattle.laws.specs.Chains.{_and_, none}
+use Rattle.laws.specs.HoldLaws.{hold, nth}
 use Rattle.arbiter.specs.Sound.{counters, idleConditions, ownConditions, placeConditions, ranges, rowIn, sound, soundRow, waitingIn, within}
 use Rattle.arbiter.specs.declared.table.Table.{Table}
 use Rattle.promises.specs.Sound.Words.{LiveRow, SoundRow, InRange, SoundTable}

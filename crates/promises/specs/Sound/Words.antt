@@ -4,7 +4,7 @@ use mathlib.Core.Bool.{true, false, cond, Bool, _&&_}
 use mathlib.Core.Path.{_≡_}
 use Rattle.laws.specs.Sets.{below, inside, meets}
 use Rattle.rows.specs.Order.{ahead, idle, inWay, earlier, live, token}
-use Rattle.rows.specs.Turns.{Distinct}
+use Rattle.rows.specs.Propositions.{Distinct}
 use Rattle.rows.specs.declared.row.Row.{Row}
 use Rattle.arbiter.specs.Sound.{rowIn}
 use Rattle.event.specs.Limits.{highest, most}

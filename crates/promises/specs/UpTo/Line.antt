@@ -7,7 +7,8 @@ use native.Mathlib.Omega.{arith}
 use borrow.Author.Tests.{lt-ltb, ltb-true}
 use lib.Dec.{leb, ltb}
 use lib.ListN.{getD, length, length-map}
-use Rattle.rows.specs.InLine.{InTurn, lined-in-turn}
+use Rattle.rows.specs.Propositions.{InTurn}
+use Rattle.rows.specs.InLine.{lined-in-turn}
 use Rattle.rows.specs.Line.{from, keep, line, lined, place, rowOf}
 use Rattle.rows.specs.Order.{earlier, idle, live, waiting}
 use Rattle.rows.specs.Sweep.{woke, woken}

@@ -4,7 +4,8 @@ use mathlib.Core.Bool.{not}
 use mathlib.Core.Path.{_≡_, sym, ap, _∙_}
 use borrow.Author.Tests.{le-ltb, lt-ltb}
 use lib.Dec.{ltb}
-use Rattle.laws.specs.CaseLaws.{outcome-is, none, past, this}
+use Rattle.laws.specs.CaseLaws.{outcome-is}
+use Rattle.laws.specs.Chains.{none, past, this}
 use Rattle.rows.specs.Line.{rowOf}
 use Rattle.rows.specs.Order.{token}
 use borrow.Author.Needs.{needs}

@@ -2,7 +2,8 @@
 use mathlib.Core.Bool.{not}
 use mathlib.Core.Path.{sym, ap, _∙_}
 use Rattle.event.specs.Clock.{forward}
-use Rattle.laws.specs.CaseLaws.{outcome-is, outcome-past, this}
+use Rattle.laws.specs.CaseLaws.{outcome-is, outcome-past}
+use Rattle.laws.specs.Chains.{this}
 use borrow.Author.Needs.{needs}
 use Rattle.arbiter.proofs.verdict.clock_verdict.Statement.{statement}
 use Rattle.arbiter.proofs.verdict.clock_verdict.Tie as tie

@@ -3,7 +3,8 @@ use mathlib.Core.Bool.{not}
 use mathlib.Core.Path.{sym, ap, _∙_}
 use borrow.Author.Tests.{le-leb, lt-leb}
 use Rattle.event.specs.Clock.{forward}
-use Rattle.laws.specs.CaseLaws.{outcome-is, outcome-past, past, this}
+use Rattle.laws.specs.CaseLaws.{outcome-is, outcome-past}
+use Rattle.laws.specs.Chains.{past, this}
 use borrow.Author.Needs.{needs}
 use Rattle.arbiter.proofs.verdict.enter.Statement.{statement}
 use Rattle.arbiter.proofs.verdict.enter.Tie as tie

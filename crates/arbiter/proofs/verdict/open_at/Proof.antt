@@ -1,6 +1,7 @@
 -- Case 7, then the cases of the set, then that of the turn.
 use mathlib.Core.Path.{refl, sym, _∙_}
-use Rattle.laws.specs.CaseLaws.{outcome-back, outcome-front, outcome-is, outcome-past, this}
+use Rattle.laws.specs.CaseLaws.{outcome-back, outcome-front, outcome-is, outcome-past}
+use Rattle.laws.specs.Chains.{this}
 use Rattle.arbiter.proofs.Verdicts.{judged}
 use Rattle.arbiter.specs.Verdicts.{setCases, turnCases}
 use borrow.Author.Needs.{needs}

@@ -2,7 +2,8 @@
 use mathlib.Core.Bool.{not}
 use mathlib.Core.Path.{sym, ap, _∙_}
 use borrow.Author.Tests.{eq-eqb, ne-eqb}
-use Rattle.laws.specs.CaseLaws.{outcome-is, none, past, this}
+use Rattle.laws.specs.CaseLaws.{outcome-is}
+use Rattle.laws.specs.Chains.{none, past, this}
 use borrow.Author.Needs.{needs}
 use Rattle.arbiter.proofs.verdict.set_verdict.Statement.{statement}
 use Rattle.arbiter.proofs.verdict.set_verdict.Tie as tie

@@ -1,6 +1,7 @@
 -- The test is the case.
 use mathlib.Core.Path.{sym, _∙_}
-use Rattle.laws.specs.CaseLaws.{none, outcome-is, past, this}
+use Rattle.laws.specs.Chains.{none, past, this}
+use Rattle.laws.specs.CaseLaws.{outcome-is}
 use borrow.Author.Needs.{needs}
 use Rattle.arbiter.proofs.verdict.turn_verdict.Statement.{statement}
 use Rattle.arbiter.proofs.verdict.turn_verdict.Tie as tie

@@ -3,7 +3,8 @@ use Prim.Native.Nat.{_+_, _-_}
 use borrow.Author.Needs.{needs}
 use borrow.Author.Tests.{lt-ltb, le-ltb, le-leb, lt-leb}
 use native.Mathlib.Omega.{arith}
-use Rattle.laws.specs.CaseLaws.{outcome-is, none, this, past}
+use Rattle.laws.specs.CaseLaws.{outcome-is}
+use Rattle.laws.specs.Chains.{none, this, past}
 use Rattle.event.specs.Clock.{difference, forward}
 use Rattle.event.specs.Limits.{highest}
 use Rattle.event.proofs.clock.forward.Statement.{statement}

@@ -3,7 +3,8 @@ use mathlib.Core.Path.{sym, _∙_}
 use borrow.Author.Needs.{needs}
 use borrow.Author.Tests.{le-leb}
 use native.Mathlib.Omega.{arith}
-use Rattle.laws.specs.SetLaws.{below-shift, below-wide}
+use Rattle.laws.proofs.Ranges.{below-wide}
+use Rattle.laws.specs.SetLaws.{below-shift}
 use Rattle.laws.proofs.sets.below.Statement.{statement}
 use Rattle.laws.proofs.sets.below.Tie as tie
 

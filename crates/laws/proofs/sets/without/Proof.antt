@@ -1,7 +1,7 @@
 -- `laws::sets::without` meets its contract: the code computes the definition, and what it takes away is never more than `s`.
 use mathlib.Core.Path.{refl}
 use Rattle.laws.specs.Sets.{meet, without}
-use Rattle.laws.specs.SetLaws.{meet-le}
+use Rattle.laws.proofs.Ranges.{meet-le}
 use Rattle.laws.proofs.sets.without.Statement.{statement}
 use Rattle.laws.proofs.sets.without.Tie as tie
 

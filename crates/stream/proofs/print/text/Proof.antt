@@ -3,7 +3,7 @@ use mathlib.Core.Path.{refl}
 use native.Mathlib.Omega.{arith}
 use lib.ListN.{length}
 use borrow.Author.Needs.{needs}
-use Rattle.stream.specs.Printing.{place-fits}
+use Rattle.stream.proofs.Places.{place-fits}
 use Rattle.stream.proofs.print.text.Statement.{statement}
 use Rattle.stream.proofs.print.text.Tie as tie
 

@@ -4,7 +4,8 @@ use mathlib.Core.Path.{refl, _∙_}
 use borrow.Author.Tests.{le-ltb, lt-ltb}
 use Rattle.event.specs.declared.events.Event.the-variants.{Complete}
 use Rattle.laws.specs.Cases.{case}
-use Rattle.laws.specs.CaseLaws.{outcome-is, outcome-past, this}
+use Rattle.laws.specs.CaseLaws.{outcome-is, outcome-past}
+use Rattle.laws.specs.Chains.{this}
 use Rattle.arbiter.proofs.Answering.{accepted-answers-into, refused-answers-into}
 use Rattle.arbiter.proofs.Verdicts.{has-row, judged}
 use Rattle.arbiter.specs.Effects.{completedRows}

@@ -6,7 +6,8 @@ use borrow.Author.Tests.{le-ltb, lt-ltb}
 use lib.ListN.{length}
 use Rattle.event.specs.Refusals.{numberOf}
 use Rattle.event.specs.declared.refusal.Refusal.{Refusal}
-use Rattle.laws.specs.CaseLaws.{acceptance-tells, outcome-is, outcome-past, refusal-tells, this}
+use Rattle.laws.specs.CaseLaws.{acceptance-tells, outcome-is, outcome-past, refusal-tells}
+use Rattle.laws.specs.Chains.{this}
 use Rattle.laws.specs.Cases.{fine, leaves, outcome, refused}
 use Rattle.laws.specs.Front.{over}
 use Rattle.rows.specs.LineInCode.{Listed}

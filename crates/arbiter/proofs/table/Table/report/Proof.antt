@@ -3,7 +3,8 @@ use mathlib.Core.Bool.{not}
 use mathlib.Core.Path.{sym, ap, _∙_}
 use borrow.Author.Tests.{le-leb, lt-leb}
 use Rattle.laws.specs.Cases.{fine}
-use Rattle.laws.specs.CaseLaws.{none, outcome-is, past, this}
+use Rattle.laws.specs.Chains.{none, past, this}
+use Rattle.laws.specs.CaseLaws.{outcome-is}
 use Rattle.arbiter.specs.Meaning.{report}
 use borrow.Author.Needs.{needs}
 use Rattle.arbiter.proofs.table.Table.report.Statement.{statement}

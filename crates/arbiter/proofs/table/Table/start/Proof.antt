@@ -2,7 +2,8 @@
 use mathlib.Core.Bool.{not}
 use mathlib.Core.Path.{sym, ap, _∙_}
 use lib.ListN.{replicate}
-use Rattle.laws.specs.CaseLaws.{leaves-is, none, outcome-is, past, this}
+use Rattle.laws.specs.CaseLaws.{leaves-is, outcome-is}
+use Rattle.laws.specs.Chains.{none, past, this}
 use Rattle.event.specs.Limits.{jobs}
 use Rattle.rows.specs.declared.row.Row.{Row}
 use Rattle.arbiter.specs.Meaning.{startAnswer, startTable}

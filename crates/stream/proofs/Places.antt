@@ -1,0 +1,15 @@
+-- Places in the lent room.
+use Prim.Native.Nat.{ℕ, _+_, _≤_}
+use mathlib.Core.Bool.{Bool, true, false, cond}
+use mathlib.Core.Path.{_≡_, refl}
+use native.Mathlib.Omega.{arith}
+use borrow.Author.Tests.{leb-true}
+use lib.Dec.{leb}
+use Rattle.stream.specs.Printing.{placeFor}
+
+pub place-fits : (size at n : ℕ) → n ≤ size → placeFor size at n + n ≤ size
+place-fits size at n h = go (leb (at + n) size) refl
+  where
+    go : (b : Bool) → leb (at + n) size ≡ b → cond b at 0 + n ≤ size
+    go true e = leb-true (at + n) size e
+    go false e = omega arith
