@@ -1,20 +1,9 @@
 -- From a verdict to the promise of an event: a refusal leaves all as it was, an acceptance does what the event means.
-use Prim.Native.Nat.{ℕ}
-use mathlib.Core.List.{List}
-use mathlib.Core.Path.{_≡_, sym, ap, _∙_}
-use Rattle.event.specs.Refusals.{numberOf}
-use Rattle.event.specs.declared.refusal.Refusal.{Refusal}
-use Rattle.event.specs.declared.events.Event.{Event}
-use Rattle.laws.specs.CaseLaws.{acceptance-tells, refusal-tells}
-use Rattle.laws.specs.Cases.{fine, outcome, refused}
-use Rattle.laws.specs.Front.{over}
-use lib.ListN.{length}
+use Rattle.arbiter.specs.Prelude.{Event, List, Next, Refusal, Table, acceptance-tells, ap, fine, length, numberOf, outcome, over, refusal-tells, refused, sym, ℕ, _∙_, _≡_}
 use Rattle.arbiter.specs.Meaning.{accepted, answer, listed, next, said, wakes}
 use Rattle.arbiter.specs.Promises.{Answered, AnsweredInto}
 use Rattle.arbiter.specs.Effects.{Does, Refuses}
 use Rattle.arbiter.specs.Refusals.{cases}
-use Rattle.arbiter.specs.declared.table.Next.{Next}
-use Rattle.arbiter.specs.declared.table.Table.{Table}
 
 module _ (n : ℕ) (t : Table) (e : Event) (time : ℕ) (r : Next) where
   pub refused-answers :

@@ -1,9 +1,5 @@
 -- The length of an array that stands in a struct.
-use Prim.Native.Nat.{ℕ}
-use mathlib.Core.List.{List, map}
-use mathlib.Core.Path.{_≡_, sym, _∙_}
-use lib.ListN.{length, length-map}
-use borrow.Author.Needs.{needs}
+use Rattle.arbiter.specs.Prelude.{List, length, length-map, map, needs, sym, ℕ, _∙_, _≡_}
 
 pub length-mapped : (X Y : Type 0) (f : X → Y) (l : List X) (n : ℕ) → length (map f l) ≡ n → length l ≡ n
 length-mapped X Y f l n e = sym (length-map l f) ∙ e

@@ -1,21 +1,6 @@
 -- What accepted cases tell of the job and of the table.
-use Prim.Native.Nat.{ℕ, _<_, _^_}
-use mathlib.Core.Bool.{not, true, _&&_}
-use mathlib.Core.List.{List}
-use mathlib.Core.Path.{_≡_, sym, ap, _∙_}
-use borrow.Author.Tests.{leb-false, leb-true, not-false}
-use native.Mathlib.Omega.{arith}
-use lib.Dec.{leb}
-use Rattle.event.specs.Clock.{momentOf}
-use Rattle.event.specs.declared.clock.Moment.{Moment}
-use Rattle.laws.specs.Cases.{Case, Outcome, positive, case, fine, outcome}
-use Rattle.laws.specs.CaseLaws.{acceptance-tells, clear}
-use Rattle.laws.specs.BoolLaws.{and-left, and-right}
-use Rattle.laws.specs.Lists.{all, holds}
-use Rattle.event.specs.Limits.{highest, jobs}
-use Rattle.rows.specs.Order.{distinct}
+use Rattle.arbiter.specs.Prelude.{_&&_, _<_, Case, List, Moment, Outcome, Table, _^_, acceptance-tells, all, and-left, and-right, ap, arith, case, clear, distinct, fine, highest, holds, jobs, leb, leb-false, leb-true, momentOf, not, not-false, outcome, positive, sym, true, ℕ, _∙_, _≡_}
 use Rattle.arbiter.specs.Sound.{counters, ranges, sound, soundRow}
-use Rattle.arbiter.specs.declared.table.Table.{Table}
 
 -- a verdict that turned out to be w says what it was judged to say
 pub judged : {v w : Moment} {o : Outcome ℕ} → v ≡ w → momentOf v ≡ o → momentOf w ≡ o

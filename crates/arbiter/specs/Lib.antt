@@ -4,6 +4,7 @@ pub mod ByStanding
 pub mod Effects
 pub mod Meaning
 pub mod OwnRow
+pub mod Prelude
 pub mod Promises
 pub mod Readings
 pub mod RefusalLaws

@@ -1,33 +1,9 @@
 -- What the tests on sets say of single resources: the refusals 11 to 15, Q3, and the set conditions of a sound row.
-use Prim.Native.Nat.{ℕ, _<_}
-use mathlib.Core.Bool.{Bool, true, false, true≢false}
-use mathlib.Core.List.{List}
-use mathlib.Core.Logic.{_↔_}
-use mathlib.Core.Path.{_≡_, refl, sym, _∙_}
-use native.Mathlib.Omega.{arith}
-use borrow.Author.Tests.{eqb-false, eqb-true, le-leb, leb-true, lt-ltb, ltb-false, ltb-true}
-use lib.Dec.{eqb}
-use Rattle.event.specs.declared.clock.Tick.{Tick}
-use Rattle.event.specs.declared.events.Event.the-variants.{Ask, Release}
-use Rattle.laws.specs.Cases.{case}
-use Rattle.laws.specs.Lists.{holds}
-use Rattle.laws.specs.Reads.{Reads}
-use Rattle.laws.specs.ReadsLaws.{reading, reads-not}
-use Rattle.laws.specs.Sets.{below, inside, member}
-use Rattle.laws.specs.SetLaws.{below-reads, empty, inside-reads, meets-reads, some-member}
-use Rattle.rows.specs.Propositions.{InTheWay}
-use Rattle.rows.specs.InWay.{in-way-at, in-way-some}
-use Rattle.rows.specs.Line.{rowOf}
-use Rattle.rows.specs.Order.{blocked, inWay}
-use Rattle.rows.specs.declared.row.Row.{Row}
+use Rattle.arbiter.specs.Prelude.{_<_, Above, Apart, Ask, Beyond, Bool, InTheWay, List, None, Reads, Release, Row, Shared, Some, Table, Tick, Under, Within, _and_, arith, below, below-reads, blocked, case, empty, eqb, eqb-false, eqb-true, false, hold, holds, in-way-at, in-way-some, inWay, inside, inside-reads, le-leb, leb-true, lt-ltb, ltb-false, ltb-true, meets-reads, member, none, nth, reading, reads-not, refl, rowOf, some-member, sym, true, true≢false, ℕ, _↔_, _∙_, _≡_}
 use Rattle.arbiter.specs.Refusals.{cases}
 use Rattle.arbiter.specs.Verdicts.{setCases}
-use Rattle.laws.specs.Chains.{_and_, none}
-use Rattle.laws.specs.HoldLaws.{hold, nth}
-use Rattle.laws.specs.Members.{Above, Apart, Beyond, None, Shared, Some, Under, Within}
 use Rattle.arbiter.specs.OwnRow.{OwnRow}
 use Rattle.arbiter.specs.Sound.{ownConditions}
-use Rattle.arbiter.specs.declared.table.Table.{Table}
 
 -- a number is 0 exactly if it has no member
 empty-reads : (s : ℕ) → Reads (eqb s 0) (None s) (Some s)

@@ -1,11 +1,5 @@
 -- The numbers of each call's cases ascend, so the first that applies is the lowest.
-use Prim.Native.Nat.{ℕ}
-use mathlib.Core.Bool.{true}
-use mathlib.Core.Path.{_≡_, refl}
-use Rattle.event.specs.declared.events.Event.{Event}
-use Rattle.event.specs.declared.events.Event.the-variants.{Beat, Open, Ask, Release, Complete}
-use Rattle.laws.specs.Cases.{ascending, ascends}
-use Rattle.arbiter.specs.declared.table.Table.{Table}
+use Rattle.arbiter.specs.Prelude.{Ask, Beat, Complete, Event, Open, Release, Table, ascending, ascends, refl, true, ℕ, _≡_}
 use Rattle.arbiter.specs.Refusals.{cases, startCases, reportCases, overdueCases}
 
 -- ---- Laws: the numbers of each call's cases ascend, so the first that applies is the lowest

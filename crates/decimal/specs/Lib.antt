@@ -1,3 +1,4 @@
 -- Numbers in decimal.
+pub mod Prelude
 pub mod Text
 pub mod TextLaws

@@ -1,15 +1,5 @@
 -- Laws of decimal text: both round trips.
-use Prim.Native.Nat.{ℕ, zero, suc, _+_, _-_, _*_, _/_, _%_, _^_, _<_, _≤_}
-use mathlib.Core.List.{List, [], _∷_, _++_, map, append-nil}
-use mathlib.Core.Logic.{_≢_}
-use mathlib.Core.Path.{_≡_, refl, sym, _∙_}
-use native.Mathlib.Omega.{arith}
-use native.Mathlib.Decide.{decLt}
-use native.Mathlib.Nat.{not-suc-le-zero, le-refl, pow-suc, mul-assoc}
-use native.Mathlib.Numerals.{add-one}
-use lib.ListN.{length, getD, length-append, List·getD-append}
-use lib.Seq.{append-snoc}
-use borrow.Author.Tests.{lt-ltb, le-ltb}
+use Rattle.decimal.specs.Prelude.{_%_, _*_, _+_, _++_, _-_, _/_, _<_, List, List·getD-append, [], _^_, add-one, append-nil, append-snoc, arith, decLt, getD, le-ltb, le-refl, length, length-append, lt-ltb, map, mul-assoc, not-suc-le-zero, pow-suc, refl, suc, sym, zero, ℕ, _∙_, _∷_, _≡_, _≢_, _≤_}
 use Rattle.decimal.specs.Text.{digits, text, value, Digit, Digits, Canonical}
 
 -- ---- Text, digit by digit

@@ -1,13 +1,9 @@
 -- What the clock promises determines its answer.
-use Prim.Native.Nat.{ℕ}
-use mathlib.Core.Path.{_≡_, refl, ap}
-use Rattle.laws.specs.Cases.{Outcome}
+use Rattle.event.specs.Prelude.{Moment, Outcome, ap, refl, told-apart, ℕ, _≡_}
 use Rattle.event.specs.Answers.{answerBy}
 use Rattle.event.specs.Clock.{momentOf}
 use Rattle.event.specs.RefusalLaws.{refusalOf-numberOf}
-use Rattle.event.specs.declared.clock.Moment.{Moment}
 use Rattle.event.specs.declared.clock.Moment.the-variants as Moments
-use Rattle.laws.specs.Determined.{told-apart}
 
 -- what the clock gives: the next true time or a refusal
 moment-said : (m : Moment) → answerBy Moments.No Moments.At (momentOf m) ≡ m

@@ -1,12 +1,6 @@
 -- True time is real time, wraps and all.
-use Prim.Native.Nat.{ℕ, _+_, _-_, _%_, _^_, _<_, _≤_}
-use mathlib.Core.List.{List, _∷_, map}
-use mathlib.Core.Path.{_≡_, refl, sym, ap, _∙_}
-use native.Mathlib.Omega.{arith}
-use borrow.Author.Tests.{le-ltb, lt-leb}
-use Rattle.laws.specs.Cases.{fine}
-use Rattle.laws.specs.CaseLaws.{outcome-is, acceptance-tells}
-use Rattle.laws.specs.Chains.{none, past}
+use Rattle.event.specs.Prelude.{_%_, _+_, _-_, _<_, List, _^_, acceptance-tells, ap, arith, fine, le-ltb, lt-leb, map, outcome-is, past, refl, sym, ℕ, _∙_, _∷_, _≡_, _≤_}
+use Rattle.laws.specs.Chains.{none}
 use Rattle.event.specs.Limits.{highest}
 use Rattle.event.specs.Clock.{difference, clockCases, forward, forwards, Often, ended, then}
 

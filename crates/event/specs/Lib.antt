@@ -6,5 +6,6 @@ pub mod ClockLaws
 pub mod EventLaws
 pub mod Events
 pub mod Limits
+pub mod Prelude
 pub mod RefusalLaws
 pub mod Refusals

@@ -1,15 +1,5 @@
 -- No two refusals share a number, and what the cases of named refusals tell.
-use Prim.Native.Nat.{ℕ, zero, suc, _-_, _<_}
-use mathlib.Core.Bool.{Bool, true, false, cond, _||_, false≢true}
-use mathlib.Core.List.{List, [], _∷_}
-use mathlib.Core.Path.{_≡_, refl, sym, ap, _∙_}
-use native.Mathlib.Omega.{arith}
-use borrow.Author.Tests.{eqb-true, lt-ltb}
-use lib.Dec.{eqb}
-use lib.ListN.{getD}
-use Rattle.laws.specs.Cases.{first, positive}
-use Rattle.event.specs.declared.refusal.Refusal.{Refusal}
-use Rattle.event.specs.declared.refusal.Refusal.the-variants.{BadStart, ShortList, UnsoundTable, NoSuchJob, ClockGoneBack, TimeSpent, AlreadyLive, NotLive, NoToken, StillWaiting, EmptySet, NoSuchResource, NotDeclared, AlreadyHeld, NotHeld, TurnsSpent, WrongLength, UnknownKind, BitSet, StartOutOfPlace}
+use Rattle.event.specs.Prelude.{_-_, _<_, AlreadyHeld, AlreadyLive, BadStart, BitSet, Bool, ClockGoneBack, EmptySet, List, NoSuchJob, NoSuchResource, NoToken, NotDeclared, NotHeld, NotLive, Refusal, ShortList, StartOutOfPlace, StillWaiting, TimeSpent, TurnsSpent, UnknownKind, UnsoundTable, WrongLength, [], ap, arith, cond, eqb, eqb-true, false, false≢true, first, getD, lt-ltb, positive, refl, suc, sym, true, zero, _||_, ℕ, _∙_, _∷_, _≡_}
 use Rattle.event.specs.Refusals.{among, casesBy, numberOf}
 
 -- the refusals in the order of their numbers

@@ -6,5 +6,6 @@ pub mod FieldLaws
 pub mod Fields
 pub mod Packing
 pub mod PackingLaws
+pub mod Prelude
 pub mod Promises
 pub mod Worked

@@ -1,11 +1,5 @@
 -- Ranges of sets that code computes.
-use Prim.Native.Nat.{ℕ, _^_, _≤_, _<_}
-use mathlib.Core.Bool.{true}
-use mathlib.Core.Path.{_≡_}
-use native.Mathlib.Nat.{lt-of-lt-of-le}
-use borrow.Author.Tests.{lt-ltb}
-use lib.Bits.{and-le-l}
-use lib.Pow.{pow-mono}
+use Rattle.laws.specs.Prelude.{_<_, _^_, and-le-l, lt-ltb, lt-of-lt-of-le, pow-mono, true, ℕ, _≡_, _≤_}
 use Rattle.laws.specs.Sets.{meet, below}
 
 pub meet-le : (s t : ℕ) → meet s t ≤ s

@@ -1,10 +1,5 @@
 -- Laws of truth values: as numbers, in conjunctions, in choices.
-use Prim.Native.Nat.{ℕ, _≤_}
-use mathlib.Core.Bool.{Bool, true, false, cond, not, _&&_, and-comm}
-use mathlib.Core.Path.{_≡_, refl, sym, ap, _∙_}
-use native.Mathlib.Omega.{arith}
-use borrow.Author.Tests.{le-leb, lt-leb, ltb-false, ltb-true}
-use lib.Dec.{leb, ltb}
+use Rattle.laws.specs.Prelude.{_&&_, Bool, and-comm, ap, arith, cond, false, le-leb, leb, lt-leb, ltb, ltb-false, ltb-true, not, refl, sym, true, ℕ, _∙_, _≡_, _≤_}
 use Rattle.laws.specs.Bools.{bit, implies}
 
 pub bit-le : (b : Bool) → bit b ≤ 1

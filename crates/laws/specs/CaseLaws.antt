@@ -1,12 +1,5 @@
 -- Laws of numbered cases: the first that applies, and what an answer tells.
-use Prim.Native.Nat.{ℕ, zero, suc, _<_, _≤_}
-use mathlib.Core.Bool.{Bool, true, false, cond, false≢true}
-use mathlib.Core.List.{List, [], _∷_, _++_}
-use mathlib.Core.Path.{_≡_, refl, ap, _∙_}
-use native.Mathlib.Nat.{lt-irrefl}
-use native.Mathlib.Omega.{arith}
-use borrow.Author.Tests.{ltb-true, eqb-true, eq-eqb, ne-eqb}
-use lib.Dec.{ltb, eqb}
+use Rattle.laws.specs.Prelude.{_++_, _<_, Bool, List, [], ap, arith, cond, eq-eqb, eqb, eqb-true, false, false≢true, lt-irrefl, ltb, ltb-true, ne-eqb, refl, suc, true, zero, ℕ, _∙_, _∷_, _≡_, _≤_}
 use Rattle.laws.specs.BoolLaws.{and-left, and-right}
 use Rattle.laws.specs.Cases.{Case, when, first, ascends, case, Outcome, refused, fine, unless, outcome, keepUnless, leaves, positive}
 use Rattle.laws.specs.Chains.{First, none, this, past}

@@ -1,11 +1,5 @@
 -- What counts say of single elements, and how they compare. An element past the end reads as the default d.
-use Prim.Native.Nat.{ℕ, zero, suc, _+_, _<_, _≤_}
-use mathlib.Core.Bool.{Bool, true, false, _&&_, and-true, false≢true}
-use mathlib.Core.List.{List, [], _∷_}
-use mathlib.Core.Path.{_≡_, refl, sym, ap, fun-ext, _∙_}
-use native.Mathlib.Nat.{le-antisymm, lt-irrefl, zero-add}
-use native.Mathlib.Omega.{arith}
-use lib.ListN.{getD, length}
+use Rattle.laws.specs.Prelude.{_&&_, _+_, _<_, Bool, List, [], and-true, ap, arith, false, false≢true, fun-ext, getD, le-antisymm, length, lt-irrefl, refl, suc, sym, true, zero, zero-add, ℕ, _∙_, _∷_, _≡_, _≤_}
 use Rattle.laws.specs.Bools.{bit}
 use Rattle.laws.specs.BoolLaws.{and-left, and-right}
 use Rattle.laws.specs.Lists.{all, count}

@@ -1,5 +1,5 @@
 -- What a promise says determines what is answered: what two calls that keep it hand back is the same.
-use mathlib.Core.Path.{_≡_, sym, ap, _∙_}
+use Rattle.laws.specs.Prelude.{ap, sym, _∙_, _≡_}
 
 -- a promise that the result equals a definition determines it, whatever the definition
 pub determined : {A : Type 0} {x r r′ : A} → r ≡ x → r′ ≡ x → r ≡ r′

@@ -1,12 +1,5 @@
 -- Laws of lists with a part written over.
-use Prim.Native.Nat.{ℕ, suc, _+_, _<_, _≤_}
-use mathlib.Core.List.{List, [], _∷_, _++_, append-assoc, append-nil}
-use mathlib.Core.Path.{_≡_, refl, sym, ap, _∙_}
-use native.Mathlib.Nat.{zero-add, add-assoc, add-zero}
-use native.Mathlib.Numerals.{add-one}
-use native.Mathlib.Omega.{arith}
-use lib.ListN.{length, take, drop, set, length-append, length-drop, take-append-drop}
-use lib.Seq.{append-snoc, set-split, take-at, take-append-le, take-append-add, take-set-le, drop-at, drop-append-le, drop-append-add, drop-drop, length-take-le}
+use Rattle.laws.specs.Prelude.{_+_, _++_, _<_, List, [], add-assoc, add-one, add-zero, ap, append-assoc, append-nil, append-snoc, arith, drop, drop-append-add, drop-append-le, drop-at, drop-drop, length, length-append, length-drop, length-take-le, refl, set, set-split, suc, sym, take, take-append-add, take-append-drop, take-append-le, take-at, take-set-le, zero-add, ℕ, _∙_, _∷_, _≡_, _≤_}
 use Rattle.laws.specs.Front.{Wrote, laid, over}
 
 module _ {A : Type 0} where

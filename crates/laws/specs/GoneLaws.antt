@@ -1,11 +1,5 @@
 -- Who has gone: how many pass a test before and not after, and how that moves the count of those who pass.
-use Prim.Native.Nat.{ℕ, suc, _+_, _≤_}
-use mathlib.Core.Bool.{Bool, true, false, not, _&&_}
-use mathlib.Core.List.{List, [], _∷_}
-use mathlib.Core.Path.{_≡_, refl, sym, _∙_}
-use native.Mathlib.Nat.{le-antisymm}
-use native.Mathlib.Omega.{arith}
-use lib.ListN.{getD, length}
+use Rattle.laws.specs.Prelude.{_&&_, _+_, Bool, List, [], arith, false, getD, le-antisymm, length, not, refl, suc, sym, true, ℕ, _∙_, _∷_, _≡_, _≤_}
 use Rattle.laws.specs.Bools.{bit}
 use Rattle.laws.specs.Lists.{count, gone}
 

@@ -1,9 +1,5 @@
 -- Conditions that all hold, one by one and by their places.
-use Prim.Native.Nat.{ℕ}
-use mathlib.Core.Bool.{Bool, true}
-use mathlib.Core.List.{List}
-use mathlib.Core.Path.{_≡_, refl}
-use lib.ListN.{getD}
+use Rattle.laws.specs.Prelude.{Bool, List, getD, refl, true, ℕ, _≡_}
 use Rattle.laws.specs.Counts.{all-each}
 use Rattle.laws.specs.Lists.{all, holds}
 use Rattle.laws.specs.Chains.{Hold, none, _and_}

@@ -13,6 +13,7 @@ pub mod HoldLaws
 pub mod ListLaws
 pub mod Lists
 pub mod Members
+pub mod Prelude
 pub mod Reads
 pub mod ReadsLaws
 pub mod SetLaws

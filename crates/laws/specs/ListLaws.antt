@@ -1,18 +1,7 @@
 -- Laws of how many, any and all.
-use Prim.Native.Nat.{ℕ, zero, suc, _+_, _<_, _≤_}
-use mathlib.Core.Bool.{Bool, true, false, _&&_, _||_, or-comm, or-assoc, and-comm, and-assoc}
-use mathlib.Core.List.{List, [], _∷_, _++_, map}
-use mathlib.Core.Path.{_≡_, refl, sym, ap, _∙_}
-use native.Mathlib.Nat.{not-suc-le-zero, le-of-suc-le-suc, add-assoc, add-comm, add-zero, zero-add}
-use native.Mathlib.Numerals.{add-one}
-use native.Mathlib.Omega.{arith}
-use borrow.Author.Count.{below-more}
-use borrow.Author.Tests.{lt-ltb}
-use lib.Dec.{ltb}
+use Rattle.laws.specs.Prelude.{_&&_, _+_, _++_, _<_, Bool, List, [], add-assoc, add-comm, add-one, add-zero, and-assoc, and-comm, ap, arith, below-more, drop, drop-cons, drop-of-length-le, false, getD, getD-set-other, getD-set-same, le-of-suc-le-suc, length, lt-ltb, ltb, map, not-suc-le-zero, or-assoc, or-comm, refl, set, suc, sym, true, zero, zero-add, _||_, ℕ, _∙_, _∷_, _≡_, _≤_}
 use Rattle.laws.specs.Bools.{bit}
 use Rattle.laws.specs.BoolLaws.{bit-le}
-use lib.ListN.{length, getD, set, drop, drop-of-length-le}
-use lib.Seq.{drop-cons, getD-set-other, getD-set-same}
 use Rattle.laws.specs.Lists.{count, any, all}
 
 -- ---- When one element is set

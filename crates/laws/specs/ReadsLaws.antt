@@ -1,7 +1,5 @@
 -- What it takes to read a test in both directions.
-use mathlib.Core.Bool.{Bool, true, false, not, true≢false, false≢true}
-use mathlib.Core.Path.{_≡_, refl, ap}
-use borrow.Author.Tests.{not-false, not-true}
+use Rattle.laws.specs.Prelude.{Bool, ap, false, false≢true, not, not-false, not-true, refl, true, true≢false, _≡_}
 use Rattle.laws.specs.Reads.{Reads}
 
 -- one direction of each is enough, since the two cannot both be

@@ -1,15 +1,5 @@
 -- Laws of sets as numbers, for numbers of any size, so for every width at once.
-use Prim.Native.Nat.{ℕ, zero, suc, _+_, _-_, _/_, _%_, _^_, _≤_, _<_}
-use mathlib.Core.Bool.{Bool, true, false, not, xor, _&&_, _||_, true≢false, and-eq-true-iff, or-false, and-self, or-self, and-assoc, or-assoc, and-comm, or-comm, and-or-distrib-left, and-self-left}
-use mathlib.Core.Logic.{_↔_}
-use mathlib.Core.Path.{_≡_, refl, sym, ap, _∙_}
-use native.Mathlib.Nat.{mod-lt, zero-div, div-eq-of-lt, le-div-iff-mul-le, le-add-right, add-sub-of-le}
-use native.Mathlib.Omega.{arith}
-use borrow.Author.Tests.{eqb-true, eqb-false, ltb-true, ltb-false, eq-eqb, lt-ltb, ne-eqb, not-true}
-use lib.Arith.{bin-ind, le-zero}
-use lib.Bits.{bitAnd, bitOr, bitXor, and-shr, or-shr, xor-shr, and-mod, or-mod, xor-mod, and-le-l, and-le-r, or-add-and, xor-add-and}
-use lib.Dec.{eqb, ltb}
-use lib.Pow.{pow-pos, shr-shr}
+use Rattle.laws.specs.Prelude.{_%_, _&&_, _+_, _-_, _/_, _<_, Bool, _^_, add-sub-of-le, and-assoc, and-comm, and-eq-true-iff, and-le-l, and-le-r, and-mod, and-or-distrib-left, and-self, and-self-left, and-shr, ap, arith, bin-ind, bitAnd, bitOr, bitXor, div-eq-of-lt, eq-eqb, eqb, eqb-false, eqb-true, false, le-add-right, le-div-iff-mul-le, le-zero, lt-ltb, ltb, ltb-false, ltb-true, mod-lt, ne-eqb, not, not-true, or-add-and, or-assoc, or-comm, or-false, or-mod, or-self, or-shr, pow-pos, refl, shr-shr, suc, sym, true, true≢false, xor, xor-add-and, xor-mod, xor-shr, zero, zero-div, _||_, ℕ, _↔_, _∙_, _≡_, _≤_}
 use Rattle.laws.specs.Reads.{Reads}
 use Rattle.laws.specs.ReadsLaws.{reading}
 use Rattle.laws.specs.Sets.{member, meet, union, without, meets, inside, below}

@@ -2,6 +2,7 @@
 pub mod Demand
 pub mod History
 pub mod Kept
+pub mod Prelude
 pub mod Sessions
 pub mod Sound
 pub mod UpTo

@@ -1,25 +1,7 @@
 -- The sessions that document 01 marks P, as one table of claims about the meanings, each by computation.
-use Prim.Native.Nat.{ℕ}
-use mathlib.Core.Bool.{true, false}
-use mathlib.Core.List.{[], _∷_}
-use mathlib.Core.Path.{_≡_, refl}
-use Rattle.arbiter.specs.Answers.{saysWait}
-use Rattle.arbiter.specs.Meaning.{answer, late, lateAt, next, overdue, report, run, startTable, wakes, course}
-use Rattle.arbiter.specs.Sound.{sound}
-use Rattle.arbiter.specs.declared.table.Table.{Table}
-use Rattle.event.specs.Clock.{forward}
-use Rattle.event.specs.declared.clock.Tick.{Tick}
+use Rattle.promises.specs.Prelude.{Ask, Complete, Open, Release, Table, Tick, [], ahead, all, answer, below, count, course, distinct, encode, false, fine, first, forward, from, inWay, inside, jobs, keep, late, lateAt, leaves, lined, meet, meets, next, outcome, overdue, place, refl, refused, report, run, saysWait, settled, sound, startTable, true, union, wakes, without, woken, ℕ, _∷_, _≡_}
 use Rattle.event.specs.declared.events.Entry.the-variants.{Event}
-use Rattle.event.specs.declared.events.Event.the-variants.{Ask, Complete, Open, Release}
-use Rattle.laws.specs.Cases.{fine, first, leaves, outcome, refused}
-use Rattle.laws.specs.Lists.{all, count}
-use Rattle.laws.specs.Sets.{below, inside, meet, meets, union, without}
-use Rattle.record.specs.Format.{encode}
 use Rattle.record.specs.Worked as Record
-use Rattle.rows.specs.Line.{from, keep, lined, place}
-use Rattle.event.specs.Limits.{jobs}
-use Rattle.rows.specs.Order.{ahead, distinct, inWay}
-use Rattle.rows.specs.Sweep.{settled, woken}
 
 -- the sessions marked P
 pub data Session : Type 0 where

@@ -1,20 +1,8 @@
 -- What the rows before place i tell of a turn: with the rest of the rows it is all that is to be known.
-use Prim.Native.Nat.{ℕ, _+_, _≤_, _<_}
-use mathlib.Core.Bool.{Bool, true, false, cond, _&&_, _||_, or-assoc, or-false}
-use mathlib.Core.List.{List}
-use mathlib.Core.Path.{_≡_, refl, sym, _∙_}
-use native.Mathlib.Nat.{add-zero}
-use lib.ListN.{drop, length, drop-of-length-le}
-use Rattle.laws.specs.Bools.{bit}
-use Rattle.laws.specs.ListLaws.{Passed, any-count, any-drop, passed-all, passed-more, passed-none}
-use Rattle.laws.specs.Lists.{any}
-use Rattle.laws.specs.Sets.{meet, meets, union}
-use Rattle.laws.specs.SetLaws.{meets-comm, meets-union}
+use Rattle.rows.specs.Prelude.{_&&_, _+_, _<_, Bool, List, Passed, Row, Standing, add-zero, any, any-count, any-drop, bit, cond, drop, drop-of-length-le, false, length, meet, meets, meets-comm, meets-union, or-assoc, or-false, passed-all, passed-more, passed-none, refl, sym, true, union, _||_, ℕ, _∙_, _≡_, _≤_}
 use Rattle.rows.specs.Line.{rowOf}
 use Rattle.rows.specs.Order.{ahead, blocked, claims, earlier, idle, inWay}
 use Rattle.rows.specs.Stand.{Stands, behind, joined, unknown}
-use Rattle.rows.specs.declared.row.Row.{Row}
-use Rattle.rows.specs.declared.stand.Standing.{Standing}
 
 pub record Seen (rows : List Row) (n : ℕ) (s : Standing) (i : ℕ) : Type 0 where
   pub counted : Passed (earlier n) rows i (s .ahead)

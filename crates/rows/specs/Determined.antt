@@ -1,22 +1,8 @@
 -- Each promise of this crate determines what is known, marked or listed.
-use Prim.Native.Nat.{ℕ, _<_}
-use mathlib.Core.Bool.{Bool, true, false, not, _&&_, and-false, false≢true}
-use mathlib.Core.List.{List}
-use mathlib.Core.Path.{_≡_, refl, sym, ap, _∙_}
-use native.Mathlib.Omega.{arith}
-use lib.ListN.{getD, length}
-use lib.Seq.{ext-getD}
-use Rattle.laws.specs.SetLaws.{ext, meets-reads, member-without}
-use Rattle.laws.specs.Sets.{meets, member, without}
+use Rattle.rows.specs.Prelude.{_&&_, _<_, Bool, Line, List, Row, Standing, Survey, and-false, ap, arith, determined, ext, ext-getD, false, false≢true, getD, jobs, length, meets, meets-reads, member, member-without, not, refl, sym, true, without, ℕ, _∙_, _≡_}
 use Rattle.rows.specs.LineInCode.{Holds, Listed, jobsOf}
 use Rattle.rows.specs.Marks.{Marks}
-use Rattle.event.specs.Limits.{jobs}
 use Rattle.rows.specs.Stand.{Stands, Surveyed, unknown}
-use Rattle.rows.specs.declared.line.Line.{Line}
-use Rattle.rows.specs.declared.row.Row.{Row}
-use Rattle.rows.specs.declared.stand.Standing.{Standing}
-use Rattle.rows.specs.declared.stand.Survey.{Survey}
-use Rattle.laws.specs.Determined.{determined}
 
 -- sets that meet the same sets are one
 meets-tell : (s t : ℕ) → ((x : ℕ) → meets s x ≡ meets t x) → s ≡ t

@@ -1,16 +1,7 @@
 -- Who is in the way, by name: the reading of Q3 by rows and resources.
-use Prim.Native.Nat.{ℕ, _<_, _≤_}
-use mathlib.Core.Bool.{Bool, true, false, and-eq-true-iff, false≢true}
-use mathlib.Core.List.{List}
-use mathlib.Core.Path.{_≡_, refl, sym, _∙_}
-use native.Mathlib.Omega.{arith}
-use Rattle.laws.specs.BoolLaws.{and-left}
-use Rattle.laws.specs.Counts.{count-at, count-mono, count-some}
-use Rattle.laws.specs.Sets.{inside, meets, member, union}
-use Rattle.laws.specs.SetLaws.{inside-reads, meets-reads, member-empty, member-union}
+use Rattle.rows.specs.Prelude.{_<_, Bool, List, Row, and-eq-true-iff, and-left, arith, count-at, count-mono, count-some, false, false≢true, inside, inside-reads, meets, meets-reads, member, member-empty, member-union, refl, sym, true, union, ℕ, _∙_, _≡_, _≤_}
 use Rattle.rows.specs.Line.{rowOf}
 use Rattle.rows.specs.Order.{ahead, claims, earlier, idle, inWay}
-use Rattle.rows.specs.declared.row.Row.{Row}
 use Rattle.rows.specs.Turns.{earlier-turn, turn-earlier}
 use Rattle.rows.specs.Propositions.{InTheWay}
 

@@ -1,19 +1,10 @@
 -- The decisions from what is known of a turn are those from the rows themselves.
-use Prim.Native.Nat.{ℕ, _<_}
-use mathlib.Core.Bool.{not, _&&_}
-use mathlib.Core.List.{List}
-use mathlib.Core.Path.{_≡_, sym, ap, subst, _∙_}
-use lib.Dec.{ltb}
-use lib.ListN.{getD}
+use Rattle.rows.specs.Prelude.{_&&_, _<_, List, Row, Standing, Survey, ap, getD, jobs, ltb, not, subst, sym, ℕ, _∙_, _≡_}
 use Rattle.rows.specs.Line.{rowOf}
-use Rattle.event.specs.Limits.{jobs}
 use Rattle.rows.specs.Order.{token, waiting}
 use Rattle.rows.specs.Stand.{Stands, Surveyed, unknown}
 use Rattle.rows.specs.SweepLaws.{ahead-settled, distinct-settled, granted-keeps, in-way-settled, turn-settled}
 use Rattle.rows.specs.Sweep.{grantedRow, restedRow, settled, sweptRow, woke}
-use Rattle.rows.specs.declared.row.Row.{Row}
-use Rattle.rows.specs.declared.stand.Standing.{Standing}
-use Rattle.rows.specs.declared.stand.Survey.{Survey}
 use Rattle.rows.specs.Known.{tokenBy, waitingBy, grantedBy, restedBy, sweptBy, wokeBy}
 
 -- ---- Laws: they are the decisions from the rows

@@ -10,6 +10,7 @@ pub mod LineLaws
 pub mod Marks
 pub mod Order
 pub mod OrderLaws
+pub mod Prelude
 pub mod Propositions
 pub mod Stand
 pub mod Sweep

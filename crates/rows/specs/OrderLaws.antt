@@ -1,14 +1,5 @@
 -- How the counts of the order change with the rows.
-use Prim.Native.Nat.{ℕ, _+_, _<_}
-use mathlib.Core.Bool.{Bool, not, _||_}
-use mathlib.Core.List.{List, map}
-use mathlib.Core.Path.{_≡_, refl, sym, ap, fun-ext, _∙_}
-use lib.Dec.{eqb}
-use lib.ListN.{getD, length, set}
-use Rattle.laws.specs.Bools.{bit}
-use Rattle.laws.specs.Lists.{all, count}
-use Rattle.laws.specs.ListLaws.{all-map, count-map, count-set}
-use Rattle.rows.specs.declared.row.Row.{Row}
+use Rattle.rows.specs.Prelude.{_+_, _<_, Bool, List, Row, all, all-map, ap, bit, count, count-map, count-set, eqb, fun-ext, getD, length, map, not, refl, set, sym, _||_, ℕ, _∙_, _≡_}
 use Rattle.rows.specs.Order.{idle, live, earlier, ahead, claims, inWay, bears, alone, distinct, openingOf}
 
 -- ---- Laws

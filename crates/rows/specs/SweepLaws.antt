@@ -1,14 +1,8 @@
 -- Laws of the sweep: it changes no turn and no declared set.
-use Prim.Native.Nat.{ℕ}
-use mathlib.Core.List.{List, map}
-use mathlib.Core.Path.{_≡_, refl, sym, ap, _∙_}
-use lib.ListN.{List·getD-map, getD, length, length-map}
-use Rattle.laws.specs.BoolLaws.{either}
-use Rattle.laws.specs.Sets.{union}
+use Rattle.rows.specs.Prelude.{List, List·getD-map, Row, ap, either, getD, length, length-map, map, refl, sym, union, ℕ, _∙_, _≡_}
 use Rattle.rows.specs.Line.{rowOf}
 use Rattle.rows.specs.Order.{ahead, blocked, distinct, idle, inWay, openingOf, waiting}
 use Rattle.rows.specs.OrderLaws.{ahead-map, distinct-map, in-way-map}
-use Rattle.rows.specs.declared.row.Row.{Row}
 use Rattle.rows.specs.Sweep.{grantedRow, restedRow, sweptRow, settled}
 
 -- ---- Laws

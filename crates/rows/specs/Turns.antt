@@ -1,25 +1,7 @@
 -- What the tests of single rows say, and turns that no two live rows share.
-use Prim.Native.Nat.{ℕ, _+_, _<_, _≤_}
-use mathlib.Core.Bool.{Bool, true, false, not, _||_, and-eq-true-iff, and-false, false≢true, true≢false}
-use mathlib.Core.List.{List}
-use mathlib.Core.Logic.{_≢_, _⊎_, inl, inr}
-use mathlib.Core.Path.{_≡_, refl, sym, ap}
-use native.Mathlib.Decide.{ℕ-discrete}
-use native.Mathlib.Omega.{arith}
-use borrow.Author.Tests.{le-ltb, ltb-true, lt-ltb, eq-eqb, eqb-true, ltb-false}
-use lib.Arith.{le-zero}
-use lib.Dec.{ltb, eqb}
-use lib.ListN.{length, set, List·getD-eq-default}
-use lib.Seq.{getD-set-same, getD-set-other}
-use Rattle.laws.specs.Bools.{bit}
-use Rattle.laws.specs.Counts.{all-each, count-at, count-some, each-all}
-use Rattle.laws.specs.Lists.{count}
-use Rattle.laws.specs.ListLaws.{count-set}
-use Rattle.laws.specs.Reads.{Reads}
-use Rattle.laws.specs.ReadsLaws.{reading}
+use Rattle.rows.specs.Prelude.{_+_, _<_, Bool, List, List·getD-eq-default, Reads, Row, all-each, and-eq-true-iff, and-false, ap, arith, bit, count, count-at, count-set, count-some, each-all, eq-eqb, eqb, eqb-true, false, false≢true, getD-set-other, getD-set-same, inl, inr, le-ltb, le-zero, length, lt-ltb, ltb, ltb-false, ltb-true, not, reading, refl, set, sym, true, true≢false, _||_, ℕ, ℕ-discrete, _≡_, _≢_, _≤_, _⊎_}
 use Rattle.rows.specs.Line.{rowOf}
 use Rattle.rows.specs.Order.{ahead, alone, bears, distinct, earlier, idle, live, waiting}
-use Rattle.rows.specs.declared.row.Row.{Row}
 use Rattle.rows.specs.Propositions.{Distinct}
 
 -- a live row is one of the rows

@@ -1,10 +1,5 @@
 -- Places in the lent room.
-use Prim.Native.Nat.{ℕ, _+_, _≤_}
-use mathlib.Core.Bool.{Bool, true, false, cond}
-use mathlib.Core.Path.{_≡_, refl}
-use native.Mathlib.Omega.{arith}
-use borrow.Author.Tests.{leb-true}
-use lib.Dec.{leb}
+use Rattle.stream.specs.Prelude.{_+_, Bool, arith, cond, false, leb, leb-true, refl, true, ℕ, _≡_, _≤_}
 use Rattle.stream.specs.Printing.{placeFor}
 
 pub place-fits : (size at n : ℕ) → n ≤ size → placeFor size at n + n ≤ size

@@ -1,8 +1,5 @@
 -- The loop keeps: the digits counted and those of the rest are those of n, with one counted in advance.
-use Prim.Native.Nat.{_+_}
-use mathlib.Core.Path.{_≡_}
-use native.Mathlib.Omega.{arith}
-use lib.ListN.{length}
+use Rattle.decimal.specs.Prelude.{_+_, arith, length, _≡_}
 use Rattle.decimal.specs.Text.{text}
 use Rattle.decimal.specs.TextLaws.{length-text-small, length-text-large, length-text-pos, length-text-u64}
 use Rattle.decimal.proofs.len.Statement.{statement}

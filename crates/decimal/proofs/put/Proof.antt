@@ -1,15 +1,5 @@
 -- The loop keeps: the bytes of the text before place i are written.
-use Prim.Native.Nat.{ℕ, _+_, _-_, _<_, _≤_}
-use mathlib.Core.List.{List}
-use mathlib.Core.Path.{_≡_, refl, subst, _∙_}
-use native.Mathlib.Nat.{add-assoc, add-zero}
-use native.Mathlib.Numerals.{add-one}
-use native.Mathlib.Omega.{arith}
-use lib.ListN.{getD, length, set, take, length-set}
-use lib.Seq.{take-all, take-suc}
-use borrow.Author.Needs.{needs}
-use Rattle.laws.specs.Front.{Wrote}
-use Rattle.laws.specs.FrontLaws.{then, wrote-none, wrote-one}
+use Rattle.decimal.specs.Prelude.{_+_, _-_, _<_, List, Wrote, add-assoc, add-one, add-zero, arith, getD, length, length-set, needs, refl, set, subst, take, take-all, take-suc, then, wrote-none, wrote-one, ℕ, _∙_, _≡_, _≤_}
 use Rattle.decimal.proofs.put.Statement.{statement}
 use Rattle.decimal.proofs.put.Tie as tie
 

@@ -1,12 +1,5 @@
 -- The loop keeps: laying the digits that are left over the buffer gives what is promised, and k is the place of the last of them.
-use Prim.Native.Nat.{ℕ, _+_, _%_, _/_, _<_, _≤_}
-use mathlib.Core.List.{List}
-use mathlib.Core.Path.{_≡_, refl, _∙_}
-use native.Mathlib.Omega.{arith}
-use lib.ListN.{length, set, length-set}
-use borrow.Author.Needs.{needs}
-use Rattle.laws.specs.Front.{laid}
-use Rattle.laws.specs.FrontLaws.{laid-last, laid-one}
+use Rattle.decimal.specs.Prelude.{_%_, _+_, _/_, _<_, List, arith, laid, laid-last, laid-one, length, length-set, needs, refl, set, ℕ, _∙_, _≡_, _≤_}
 use Rattle.decimal.specs.Text.{text}
 use Rattle.decimal.specs.TextLaws.{text-small, text-large, length-text-small, length-text-large, length-text-pos}
 use Rattle.decimal.proofs.write.Statement.{statement}

@@ -1,29 +1,10 @@
 -- One history, computed: it meets every hypothesis of demand 3, with more than T-1 before the opening, a set that waits,
 -- three before it of whom two are in its way, a completion that wakes two, and refused events and a later request between.
-use Prim.Native.Nat.{ℕ, _-_}
-use mathlib.Core.List.{List, [], _∷_, _++_}
-use mathlib.Core.Path.{_≡_, refl, sym, ap, _∙_}
-use lib.ListN.{replicate}
-use Rattle.event.specs.declared.clock.Tick.{Tick}
+use Rattle.promises.specs.Prelude.{_++_, _-_, Ask, Beat, Bool, Complete, List, Open, Outcome, Report, Row, Said, Table, Tick, [], ahead, all, answer, ap, below, claims, count, course, distinct, false, fine, first, from, gone, idle, inWay, inside, jobs, keep, leaves, lined, meet, meets, next, outcome, place, refl, refused, replicate, report, rowIn, run, saysWait, saysWoke, settled, sound, startAnswer, startTable, sym, true, union, woken, ℕ, _∙_, _∷_, _≡_}
 use Rattle.event.specs.declared.events.Event.{Event}
-use Rattle.event.specs.declared.events.Event.the-variants.{Beat, Open, Ask, Complete}
-use Rattle.laws.specs.Cases.{Outcome, refused, fine, first, leaves, outcome}
-use Rattle.laws.specs.Lists.{all, count, gone}
-use Rattle.laws.specs.Sets.{below, inside, meet, meets, union}
-use Rattle.rows.specs.Line.{from, keep, lined, place}
-use Rattle.event.specs.Limits.{jobs}
-use Rattle.rows.specs.Order.{ahead, claims, distinct, idle, inWay}
-use Rattle.rows.specs.Sweep.{settled, woken}
-use Rattle.rows.specs.declared.row.Row.{Row}
-use Rattle.arbiter.specs.Answers.{Said, saysWait, saysWoke}
-use Rattle.arbiter.specs.Meaning.{answer, next, run, startAnswer, startTable, course, report}
-use Rattle.arbiter.specs.Sound.{sound, rowIn}
-use Rattle.arbiter.specs.declared.table.Table.{Table}
 use Rattle.promises.specs.Demand.Statement.{Demand3, Supposed, afterOpening, n, now, p}
 use Rattle.promises.specs.Demand.Holds.{demand3}
 use Rattle.promises.specs.History.Words.{leavings, lists, leavingsOf, Arbiter, ours}
-use Rattle.arbiter.specs.declared.table.Report.{Report}
-use mathlib.Core.Bool.{Bool, true, false}
 
 -- the tick of that number
 abbrev pub at : ℕ → Tick

@@ -1,25 +1,6 @@
 -- Demand 3 holds of every history.
-use Prim.Native.Nat.{ℕ, _+_, _-_, _≤_}
-use mathlib.Core.Bool.{Bool, cond}
-use mathlib.Core.List.{List}
-use mathlib.Core.Path.{_≡_, refl, sym, ap, subst, _∙_}
-use native.Mathlib.Omega.{arith}
-use lib.Dec.{leb, ltb}
-use lib.ListN.{length-replicate}
-use Rattle.event.specs.declared.clock.Tick.{Tick}
+use Rattle.promises.specs.Prelude.{_+_, _-_, Ask, Bool, List, Open, Report, Row, Table, Tick, acceptance-tells, ahead, ap, arith, claims, cond, count, earlier, fine, idle, inWay, jobs, leb, length-replicate, live, ltb, refl, report, reportCases, reported, rowIn, run, saysDone, saysToken, saysWait, startAnswer, startTable, subst, sym, token, ℕ, _∙_, _≡_, _≤_}
 use Rattle.event.specs.declared.events.Event.{Event}
-use Rattle.event.specs.declared.events.Event.the-variants.{Ask, Open}
-use Rattle.laws.specs.CaseLaws.{acceptance-tells}
-use Rattle.laws.specs.Cases.{fine}
-use Rattle.laws.specs.Lists.{count}
-use Rattle.event.specs.Limits.{jobs}
-use Rattle.rows.specs.Order.{ahead, claims, earlier, idle, inWay, live, token}
-use Rattle.rows.specs.declared.row.Row.{Row}
-use Rattle.arbiter.specs.Answers.{saysDone, saysToken, saysWait}
-use Rattle.arbiter.specs.Meaning.{report, reported, run, startAnswer, startTable}
-use Rattle.arbiter.specs.Refusals.{reportCases}
-use Rattle.arbiter.specs.declared.table.Report.{Report}
-use Rattle.arbiter.specs.declared.table.Table.{Table}
 use Rattle.promises.specs.Demand.Statement.{Demand3, Supposed, afterOpening, before, n, now}
 use Rattle.promises.specs.Demand.Others.{leavings-heeded, run-heeded, unmoved, way-bounded}
 use Rattle.promises.specs.Demand.Sets.{ask-granted, ask-has-token, ask-says}
@@ -32,7 +13,6 @@ use Rattle.promises.specs.Kept.Soundness.{start-fresh, start-ranges}
 use Rattle.promises.specs.Kept.Words.{Accepts}
 use Rattle.promises.specs.Kept.Accepted.{answer-accepted}
 use Rattle.promises.specs.Sound.Tests.{ranges-in}
-use Rattle.arbiter.specs.Sound.{rowIn}
 
 -- ---- The start
 

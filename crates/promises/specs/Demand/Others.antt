@@ -1,22 +1,6 @@
 -- Who enters a request's history and who does not: those in its way, later requests, refused events.
-use Prim.Native.Nat.{ℕ, _+_, _-_, _<_, _≤_}
-use mathlib.Core.Bool.{Bool, true, false, not, cond, _&&_, and-not-self, true≢false}
-use mathlib.Core.List.{List, [], _∷_}
-use mathlib.Core.Path.{_≡_, refl, sym, ap, ap₂, _∙_}
-use native.Mathlib.Nat.{zero-add}
-use native.Mathlib.Omega.{arith}
-use borrow.Author.Tests.{lt-ltb, ltb-true}
-use lib.Dec.{eqb}
+use Rattle.promises.specs.Prelude.{_&&_, _+_, _-_, _<_, Bool, List, Row, Table, [], accepted, ahead, and-not-self, ap, ap₂, arith, bit, cond, count, course, eqb, false, gone, gone-none, idle, in-way-ahead, inWay, jobs, live, lt-ltb, ltb-true, next, not, refl, rowIn, run, sym, token, true, true≢false, waiting, wakes, zero-add, ℕ, _∙_, _∷_, _≡_, _≤_}
 use Rattle.event.specs.declared.events.Event.{Event}
-use Rattle.laws.specs.Bools.{bit}
-use Rattle.laws.specs.GoneLaws.{gone-none}
-use Rattle.laws.specs.Lists.{count, gone}
-use Rattle.rows.specs.InWay.{in-way-ahead}
-use Rattle.event.specs.Limits.{jobs}
-use Rattle.rows.specs.Order.{ahead, idle, inWay, live, token, waiting}
-use Rattle.rows.specs.declared.row.Row.{Row}
-use Rattle.arbiter.specs.Meaning.{accepted, next, run, wakes, course}
-use Rattle.arbiter.specs.declared.table.Table.{Table}
 use Rattle.promises.specs.Demand.Statement.{Beside, Unmoved}
 use Rattle.promises.specs.History.Words.{heeded, leaving, leavings, taken, Along, Bears, leavingsOf, heededBy, ours}
 use Rattle.promises.specs.History.Events.{next-either}
@@ -26,7 +10,6 @@ use Rattle.promises.specs.History.Woken.{listed-after}
 use Rattle.promises.specs.Kept.Words.{ByOpening, Change, began, ended, kept, Accepts, Alike}
 use Rattle.promises.specs.Kept.Accepted.{was-sound}
 use Rattle.promises.specs.Kept.Rows.{waiting-alike}
-use Rattle.arbiter.specs.Sound.{rowIn}
 
 -- ---- Those in the way stand before it
 

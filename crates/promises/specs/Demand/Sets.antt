@@ -1,26 +1,8 @@
 -- The set that a request asks for: asked whole while an earlier-opened live request declares a member, then held whole.
-use Prim.Native.Nat.{ℕ, _<_}
-use mathlib.Core.Bool.{Bool, true, false, not, cond, _&&_, true≢false}
-use mathlib.Core.List.{List, [], _∷_}
-use mathlib.Core.Path.{_≡_, refl, sym, ap, subst, _∙_}
-use native.Mathlib.Omega.{arith}
-use borrow.Author.Tests.{eqb-false, lt-ltb, ltb-true}
-use lib.Dec.{eqb, ltb}
-use Rattle.event.specs.declared.clock.Tick.{Tick}
+use Rattle.promises.specs.Prelude.{_&&_, _<_, Ask, Bool, List, Row, Table, Tick, [], accepted, ahead, answer, ap, arith, bit, blocked, case, cond, count, course, eqb, eqb-false, false, fine, inWay, jobs, lt-ltb, ltb, ltb-true, names, next, not, refl, rowIn, run, subst, sym, token, true, true≢false, union, waiting, wakes, ℕ, _∙_, _∷_, _≡_}
 use Rattle.event.specs.declared.events.Event.{Event}
-use Rattle.event.specs.declared.events.Event.the-variants.{Ask}
-use Rattle.laws.specs.Bools.{bit}
-use Rattle.laws.specs.Cases.{case, fine}
-use Rattle.laws.specs.Lists.{count}
-use Rattle.laws.specs.Sets.{union}
-use Rattle.event.specs.Limits.{jobs}
-use Rattle.rows.specs.Order.{ahead, blocked, inWay, token, waiting}
-use Rattle.rows.specs.declared.row.Row.{Row}
 use Rattle.arbiter.specs.Answers as Answers
-use Rattle.arbiter.specs.Meaning.{accepted, answer, next, run, wakes, course}
-use Rattle.arbiter.specs.declared.table.Table.{Table}
 use Rattle.promises.specs.Demand.Statement.{AskedSet, Has}
-use Rattle.event.specs.Events.{names}
 use Rattle.promises.specs.History.Words.{lists, Along, Bears, ours}
 use Rattle.promises.specs.History.Events.{next-either}
 use Rattle.promises.specs.Kept.Changes.{ahead-accepted, alike-quiet}
@@ -31,7 +13,6 @@ use Rattle.promises.specs.Kept.Words.{Accepts}
 use Rattle.promises.specs.Kept.Accepted.{acts, answer-accepted, next-accepted, passed}
 use Rattle.promises.specs.Kept.Decisions.{decided-sets}
 use Rattle.promises.specs.Kept.Named.{asked}
-use Rattle.arbiter.specs.Sound.{rowIn}
 
 -- ---- A request that waits for a set
 

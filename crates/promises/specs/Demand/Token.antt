@@ -1,31 +1,6 @@
 -- The token of a request: it is opened with all live requests before it, and as many must complete as are too many.
-use Prim.Native.Nat.{ℕ, _+_, _-_, _<_, _≤_}
-use mathlib.Core.Bool.{Bool, true, false, not, cond, _&&_, _||_, and-true}
-use mathlib.Core.List.{List, [], _∷_}
-use mathlib.Core.Path.{_≡_, refl, sym, ap, ap₂, subst, _∙_}
-use native.Mathlib.Nat.{le-antisymm}
-use native.Mathlib.Omega.{arith}
-use borrow.Author.Tests.{lt-ltb, ltb-true, ltb-false, le-leb, leb-true}
-use lib.Dec.{eqb, leb, ltb}
-use lib.ListN.{length}
-use lib.Seq.{getD-set-same}
-use Rattle.event.specs.declared.clock.Tick.{Tick}
+use Rattle.promises.specs.Prelude.{_&&_, _+_, _-_, _<_, Bool, List, Open, Row, Table, Tick, [], accepted, ahead, ahead-mono, ahead-set, and-left, and-true, ap, ap₂, arith, bit, blocked, cond, count, count-mono, course, earlier, either, eqb, false, getD-set-same, gone, gone-mono, gone-same, idle, jobs, le-antisymm, le-leb, leb, leb-true, length, live, lt-ltb, ltb, ltb-false, ltb-true, names, next, not, openedRow, refl, rowIn, run, subst, sym, timeAt, token, true, turn-earlier, waiting, wakes, _||_, ℕ, _∙_, _∷_, _≡_, _≤_}
 use Rattle.event.specs.declared.events.Event.{Event}
-use Rattle.event.specs.declared.events.Event.the-variants.{Open}
-use Rattle.laws.specs.Bools.{bit}
-use Rattle.laws.specs.BoolLaws.{and-left, either}
-use Rattle.laws.specs.Counts.{count-mono}
-use Rattle.laws.specs.GoneLaws.{gone-mono, gone-same}
-use Rattle.laws.specs.Lists.{count, gone}
-use Rattle.rows.specs.InWay.{ahead-mono}
-use Rattle.event.specs.Limits.{jobs}
-use Rattle.rows.specs.Order.{ahead, blocked, earlier, idle, live, token, waiting}
-use Rattle.rows.specs.OrderLaws.{ahead-set}
-use Rattle.rows.specs.Turns.{turn-earlier}
-use Rattle.rows.specs.declared.row.Row.{Row}
-use Rattle.arbiter.specs.Meaning.{accepted, next, openedRow, run, timeAt, wakes, course}
-use Rattle.arbiter.specs.declared.table.Table.{Table}
-use Rattle.event.specs.Events.{names}
 use Rattle.promises.specs.History.Words.{leaving, leavings, lists, taken, Along, Bears, leavingsOf}
 use Rattle.promises.specs.History.Events.{next-either}
 use Rattle.promises.specs.Kept.Changes.{changes, ends, left-by, lower-ahead, opening-live}
@@ -34,7 +9,6 @@ use Rattle.promises.specs.History.Row.{alive, bears-after, lives, sets-a
 use Rattle.promises.specs.History.Woken.{listed-after, unnamed}
 use Rattle.promises.specs.Kept.Words.{Change, began, ended, kept, Accepts, Acts}
 use Rattle.promises.specs.Kept.Accepted.{next-accepted, open-below, open-idle, was-sound}
-use Rattle.arbiter.specs.Sound.{rowIn}
 use Rattle.promises.specs.Sound.Facts.{turns-given}
 
 -- ---- The opening

@@ -1,18 +1,6 @@
 -- Counts over whole histories: as many as there were, less those that left.
-use Prim.Native.Nat.{ℕ, _+_, _≤_}
-use mathlib.Core.Bool.{Bool, true, false, cond}
-use mathlib.Core.List.{List, [], _∷_}
-use mathlib.Core.Path.{_≡_, _∙_}
-use native.Mathlib.Nat.{zero-add}
-use native.Mathlib.Omega.{arith}
-use Rattle.event.specs.Events.{about, opens}
-use Rattle.event.specs.Limits.{jobs}
+use Rattle.promises.specs.Prelude.{_+_, Bool, List, Row, Table, [], about, accepted, ahead, arith, claims, cond, count, course, earlier, false, gone, inWay, jobs, next, opens, run, true, zero-add, ℕ, _∙_, _∷_, _≡_, _≤_}
 use Rattle.event.specs.declared.events.Event.{Event}
-use Rattle.laws.specs.Lists.{count, gone}
-use Rattle.rows.specs.Order.{ahead, claims, earlier, inWay}
-use Rattle.rows.specs.declared.row.Row.{Row}
-use Rattle.arbiter.specs.Meaning.{accepted, next, run, course}
-use Rattle.arbiter.specs.declared.table.Table.{Table}
 use Rattle.promises.specs.History.Events.{next-either}
 use Rattle.promises.specs.History.Words.{Along, leaving, leavings, taken, leavingsOf}
 use Rattle.promises.specs.Kept.Changes.{count-accepted, length-after, lower-ahead, lower-way}

@@ -1,19 +1,6 @@
 -- Whole histories: which events are accepted, whom they list as woken, and which requests leave in their course.
-use Prim.Native.Nat.{ℕ, zero, suc, _≤_}
-use mathlib.Core.Bool.{Bool, true, false, cond, false≢true}
-use mathlib.Core.List.{List, [], _++_}
-use mathlib.Core.Path.{_≡_, refl, ap, _∙_}
-use borrow.Author.Tests.{le-ltb}
-use lib.ListN.{length}
+use Rattle.promises.specs.Prelude.{_++_, Bool, Case, List, Table, [], about, accepted, answer, ap, applies, asked, calling, cases, casesBy, cond, false, false≢true, first, jobOf, jobs, keepUnless, le-ltb, leaves, length, listCases, listed, next, outcome, over, refl, said, setOf, suc, tickOf, true, unless, wakes, zero, ℕ, _∙_, _≡_, _≤_}
 use Rattle.event.specs.declared.events.Event.{Event}
-use Rattle.laws.specs.Cases.{Case, first, keepUnless, leaves, outcome, unless}
-use Rattle.laws.specs.Front.{over}
-use Rattle.event.specs.Limits.{jobs}
-use Rattle.arbiter.specs.Meaning.{accepted, answer, listed, next, said, wakes}
-use Rattle.arbiter.specs.Refusals.{applies, calling, cases, listCases}
-use Rattle.event.specs.Events.{about, asked, jobOf, setOf, tickOf}
-use Rattle.event.specs.Refusals.{casesBy}
-use Rattle.arbiter.specs.declared.table.Table.{Table}
 use Rattle.promises.specs.Kept.Words.{Accepts}
 use Rattle.promises.specs.History.Words.{isFine, lists, taken}
 

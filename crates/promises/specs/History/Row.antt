@@ -1,23 +1,6 @@
 -- What an accepted event does to the row of a job that it does not name: the sweep, by the rows after it, and no more.
-use Prim.Native.Nat.{ℕ, _<_}
-use mathlib.Core.Bool.{Bool, true, false, cond, not, _&&_, _||_, true≢false}
-use mathlib.Core.List.{List}
-use mathlib.Core.Path.{_≡_, refl, sym, ap, ap₂, subst, _∙_}
-use native.Mathlib.Omega.{arith}
-use borrow.Author.Tests.{lt-ltb, ltb-false}
-use lib.Dec.{ltb}
+use Rattle.promises.specs.Prelude.{_&&_, _<_, Bool, List, Row, Table, accepted, ap, ap₂, arith, blocked, cond, false, granted-keeps, grantedRow, inWay, jobs, live, lt-ltb, ltb, ltb-false, names, not, refl, restedRow, rowIn, subst, swept-keeps, sweptRow, sym, token, true, true≢false, union, union-empty, waiting, waiting-reads, _||_, ℕ, _∙_, _≡_}
 use Rattle.event.specs.declared.events.Event.{Event}
-use Rattle.laws.specs.Sets.{union}
-use Rattle.laws.specs.SetLaws.{union-empty}
-use Rattle.event.specs.Limits.{jobs}
-use Rattle.rows.specs.Order.{blocked, inWay, live, token, waiting}
-use Rattle.rows.specs.Sweep.{grantedRow, restedRow, sweptRow}
-use Rattle.rows.specs.SweepLaws.{granted-keeps, swept-keeps}
-use Rattle.rows.specs.Turns.{waiting-reads}
-use Rattle.rows.specs.declared.row.Row.{Row}
-use Rattle.arbiter.specs.Meaning.{accepted}
-use Rattle.arbiter.specs.declared.table.Table.{Table}
-use Rattle.event.specs.Events.{names}
 use Rattle.promises.specs.History.Words.{Bears}
 use Rattle.promises.specs.History.Count.{along-accepted}
 use Rattle.promises.specs.Kept.Words.{Accepts, Decided, Alike, Fate, acted, same, stayed}
@@ -25,7 +8,6 @@ use Rattle.promises.specs.Kept.Accepted.{was-sound}
 use Rattle.promises.specs.Kept.Decisions.{decided-sets, sweeps}
 use Rattle.promises.specs.Kept.Rows.{waiting-alike}
 use Rattle.promises.specs.Kept.Woken.{fate}
-use Rattle.arbiter.specs.Sound.{rowIn}
 use Rattle.promises.specs.Sound.Words.{LiveRow}
 
 -- what waiting is made of

@@ -1,20 +1,11 @@
 -- Whose row it is: a row that bears a turn at the end of a history has borne it since that turn was given.
-use Prim.Native.Nat.{ℕ, _<_}
-use mathlib.Core.List.{List, [], _∷_}
-use mathlib.Core.Path.{_≡_, refl, sym, ap, _∙_}
-use native.Mathlib.Omega.{arith}
+use Rattle.promises.specs.Prelude.{_<_, List, Row, Table, [], accepted, ap, arith, course, jobs, next, openingOf, refl, rowIn, run, sym, ℕ, _∙_, _∷_, _≡_}
 use Rattle.event.specs.declared.events.Event.{Event}
-use Rattle.event.specs.Limits.{jobs}
-use Rattle.rows.specs.Order.{openingOf}
-use Rattle.rows.specs.declared.row.Row.{Row}
-use Rattle.arbiter.specs.Meaning.{accepted, next, run, course}
-use Rattle.arbiter.specs.declared.table.Table.{Table}
 use Rattle.promises.specs.History.Events.{next-either}
 use Rattle.promises.specs.History.Words.{Along}
 use Rattle.promises.specs.History.Count.{along-next}
 use Rattle.promises.specs.Kept.Changes.{changes}
 use Rattle.promises.specs.Kept.Words.{Change, began, ended, kept}
-use Rattle.arbiter.specs.Sound.{rowIn}
 
 module _ {T n : ℕ} (t : Table) (along : Along T n t) (some : 0 < n) (j : ℕ) where
   -- a row that bears turn n after an event has the turn and the declared set that it had before

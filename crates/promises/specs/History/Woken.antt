@@ -1,24 +1,11 @@
 -- Whom an accepted event wakes: a job that waits before it and not after it is listed once, and no other.
-use Prim.Native.Nat.{ℕ}
-use mathlib.Core.Bool.{Bool, true, false, _&&_}
-use mathlib.Core.Path.{_≡_, refl, sym, ap, _∙_}
-use lib.Dec.{eqb}
+use Rattle.promises.specs.Prelude.{_&&_, Bool, Table, accepted, ap, bit, count, eqb, false, jobs, listed-once, names, refl, rowIn, sym, true, waiting, wakes, woke, woken, ℕ, _∙_, _≡_}
 use Rattle.event.specs.declared.events.Event.{Event}
-use Rattle.laws.specs.Bools.{bit}
-use Rattle.laws.specs.Lists.{count}
-use Rattle.rows.specs.InLine.{listed-once}
-use Rattle.event.specs.Limits.{jobs}
-use Rattle.rows.specs.Order.{waiting}
-use Rattle.rows.specs.Sweep.{woke, woken}
-use Rattle.arbiter.specs.Meaning.{accepted, wakes}
-use Rattle.arbiter.specs.declared.table.Table.{Table}
-use Rattle.event.specs.Events.{names}
 use Rattle.promises.specs.History.Words.{Bears}
 use Rattle.promises.specs.History.Row.{bears-after, lives}
 use Rattle.promises.specs.Kept.Words.{Accepts}
 use Rattle.promises.specs.Kept.Accepted.{named-rests, next-accepted}
 use Rattle.promises.specs.Kept.Woken.{wakes-woken}
-use Rattle.arbiter.specs.Sound.{rowIn}
 
 -- ---- While a job waits, its own events are refused
 

@@ -1,30 +1,6 @@
 -- What is known of an accepted event: no case applies, the table was sound, and whoever acts may act.
-use Prim.Native.Nat.{ℕ, _<_}
-use mathlib.Core.Bool.{Bool, true, false, cond, not, false≢true}
-use mathlib.Core.List.{List, [], _++_}
-use mathlib.Core.Path.{_≡_, refl, sym, subst, _∙_}
-use native.Mathlib.Nat.{le-of-eq}
-use native.Mathlib.Omega.{arith}
-use borrow.Author.Tests.{eqb-true, le-ltb, leb-false, ltb-true, ltb-false, not-false}
-use lib.Arith.{le-zero}
-use lib.Dec.{eqb}
-use Rattle.event.specs.declared.clock.Tick.{Tick}
+use Rattle.promises.specs.Prelude.{_++_, _<_, Bool, Case, List, Open, Refusal, Role, Table, Tick, [], about, accepted, actor, and-left, and-right, answer, applies, arith, asked, calling, case, cases, cases-positive, casesBy, clear, cond, eqb, eqb-true, false, false≢true, fine, first, hasJob, jobOf, jobs, le-ltb, le-of-eq, le-zero, leaves, leb-false, listCases, ltb-false, ltb-true, names, next, nobody, not, not-false, opener, outcome, positive, refl, rowIn, said, setOf, sound, subst, sym, tickOf, true, waiting, waiting-reads, ℕ, _∙_, _≡_}
 use Rattle.event.specs.declared.events.Event.{Event}
-use Rattle.event.specs.declared.events.Event.the-variants.{Open}
-use Rattle.event.specs.Events.{Role, hasJob, names, about, actor, asked, jobOf, nobody, opener, setOf, tickOf}
-use Rattle.event.specs.RefusalLaws.{cases-positive}
-use Rattle.event.specs.Refusals.{casesBy}
-use Rattle.event.specs.declared.refusal.Refusal.{Refusal}
-use Rattle.laws.specs.Cases.{Case, positive, case, first, fine, outcome, leaves}
-use Rattle.laws.specs.BoolLaws.{and-left, and-right}
-use Rattle.laws.specs.CaseLaws.{clear}
-use Rattle.event.specs.Limits.{jobs}
-use Rattle.rows.specs.Order.{waiting}
-use Rattle.rows.specs.Turns.{waiting-reads}
-use Rattle.arbiter.specs.Meaning.{accepted, answer, next, said}
-use Rattle.arbiter.specs.Refusals.{applies, calling, cases, listCases}
-use Rattle.arbiter.specs.Sound.{sound, rowIn}
-use Rattle.arbiter.specs.declared.table.Table.{Table}
 use Rattle.promises.specs.Sound.Words.{SoundTable}
 use Rattle.promises.specs.Sound.Tests.{table-sound}
 use Rattle.promises.specs.Kept.Words.{Accepts, Acts}

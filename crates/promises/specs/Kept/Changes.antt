@@ -1,30 +1,6 @@
 -- What an accepted event does to what rows were opened with, said once for each event, and what follows for every count.
-use Prim.Native.Nat.{ℕ, _+_, _<_, _≤_}
-use mathlib.Core.Bool.{Bool, true, false, cond, not, _&&_, and-not-self, and-true, true≢false}
-use mathlib.Core.List.{List}
-use mathlib.Core.Path.{_≡_, refl, sym, ap, subst, _∙_}
-use native.Mathlib.Decide.{decLe, ℕ-discrete}
-use native.Mathlib.Omega.{arith}
-use borrow.Author.Tests.{eq-eqb}
-use lib.Dec.{ltb}
-use lib.ListN.{length, length-set, set}
-use lib.Seq.{getD-set-other, getD-set-same, set-out}
-use Rattle.event.specs.Events.{about, hasJob, jobOf, tickOf}
+use Rattle.promises.specs.Prelude.{_&&_, _+_, _<_, Ask, Beat, Bool, Complete, List, Open, Release, Row, Table, about, accepted, ahead, and-not-self, and-true, ap, arith, blocked, claims, cond, count, decLe, earlier, either, eq-eqb, false, getD-set-other, getD-set-same, gone, gone-balance, gone-none, hasJob, idle, inWay, jobOf, length, length-set, length-settled, live, live-within, ltb, meets, not, not-earlier, openedRow, openingOf, refl, row-settled, rowAfter, rowIn, rowOf, set, set-out, settled, subst, swept-idle, swept-keeps, sym, tickOf, timeAt, true, true≢false, ℕ, ℕ-discrete, _∙_, _≡_, _≤_}
 use Rattle.event.specs.declared.events.Event.{Event}
-use Rattle.event.specs.declared.events.Event.the-variants.{Beat, Open, Ask, Release, Complete}
-use Rattle.laws.specs.BoolLaws.{either}
-use Rattle.laws.specs.GoneLaws.{gone-balance, gone-none}
-use Rattle.laws.specs.Lists.{count, gone}
-use Rattle.laws.specs.Sets.{meets}
-use Rattle.rows.specs.Line.{rowOf}
-use Rattle.rows.specs.Order.{ahead, blocked, claims, earlier, idle, inWay, live, openingOf}
-use Rattle.rows.specs.SweepLaws.{length-settled, row-settled, swept-idle, swept-keeps}
-use Rattle.rows.specs.Sweep.{settled}
-use Rattle.rows.specs.Turns.{live-within, not-earlier}
-use Rattle.rows.specs.declared.row.Row.{Row}
-use Rattle.arbiter.specs.Meaning.{accepted, openedRow, rowAfter, timeAt}
-use Rattle.arbiter.specs.Sound.{rowIn}
-use Rattle.arbiter.specs.declared.table.Table.{Table}
 use Rattle.promises.specs.Kept.Accepted.{acts, open-idle}
 use Rattle.promises.specs.Kept.Words.{Accepts, Acts, Alike, ByOpening, Change, Lower, began, ended, kept}
 

@@ -1,18 +1,5 @@
 -- What Q3 decides on a set, at an ask and in a sweep: the whole of it or nothing.
-use Prim.Native.Nat.{ℕ}
-use mathlib.Core.Bool.{Bool, true, false, cond, true≢false}
-use mathlib.Core.List.{List}
-use mathlib.Core.Path.{_≡_, refl, sym, _∙_}
-use native.Mathlib.Nat.{le-of-eq}
-use native.Mathlib.Omega.{arith}
-use borrow.Author.Tests.{le-ltb, lt-ltb, ltb-true, ltb-false}
-use lib.Arith.{le-zero}
-use Rattle.laws.specs.Sets.{union}
-use Rattle.rows.specs.Order.{blocked, inWay, waiting}
-use Rattle.rows.specs.Sweep.{restedRow, sweptRow}
-use Rattle.rows.specs.declared.row.Row.{Row}
-use Rattle.arbiter.specs.Meaning.{askedRow}
-use Rattle.arbiter.specs.declared.table.Table.{Table}
+use Rattle.promises.specs.Prelude.{Bool, List, Row, Table, arith, askedRow, blocked, cond, false, inWay, le-ltb, le-of-eq, le-zero, lt-ltb, ltb-false, ltb-true, refl, restedRow, sweptRow, sym, true, true≢false, union, waiting, ℕ, _∙_, _≡_}
 use Rattle.promises.specs.Kept.Words.{Decided, grants, waits, Asked, Swept}
 
 -- ---- The decision

@@ -1,35 +1,10 @@
 -- Every accepted event leaves a sound table.
-use Prim.Native.Nat.{ℕ, _+_, _-_, _^_, _<_, _≤_}
-use mathlib.Core.Bool.{Bool, true, false, cond}
-use mathlib.Core.List.{List}
-use mathlib.Core.Logic.{_≢_}
-use mathlib.Core.Path.{_≡_, refl, sym, ap, _∙_}
-use native.Mathlib.Decide.{decLe}
-use native.Mathlib.Nat.{le-refl, lt-irrefl}
-use native.Mathlib.Omega.{arith}
-use borrow.Author.Tests.{ltb-false, eqb-false, lt-ltb, not-false}
-use lib.ListN.{length, set}
-use lib.Seq.{set-out}
-use Rattle.event.specs.declared.clock.Tick.{Tick}
+use Rattle.promises.specs.Prelude.{_+_, _-_, _<_, Ask, Beat, Bool, Complete, List, Open, Release, Row, Table, Tick, _^_, accepted, ahead, ahead-set, ap, arith, askedRow, at-set, below, case, cond, decLe, distinct-rows, distinct-set, distinct-settled, distinct-test, eqb-false, false, idle, in-way-empty, in-way-inside, in-way-set, inside, inside-empty, inside-trans, le-refl, length, live-within, lt-irrefl, lt-ltb, ltb-false, meets, meets-comm, meets-empty, meets-inside, moved, not-false, openedRow, refl, releasedRow, row-settled, rowIn, set, set-out, settled, swept-idle, sweptRow, sym, timeAt, token, true, waiting, waiting-reads, without, without-inside, without-le, ℕ, _∙_, _≡_, _≢_, _≤_}
 use Rattle.event.specs.declared.events.Event.{Event}
-use Rattle.event.specs.declared.events.Event.the-variants.{Beat, Open, Ask, Release, Complete}
-use Rattle.laws.specs.Cases.{case}
-use Rattle.laws.specs.Sets.{below, inside, meets, without}
-use Rattle.laws.specs.SetLaws.{inside-empty, inside-trans, meets-comm, meets-empty, meets-inside, without-inside, without-le}
-use Rattle.rows.specs.InWay.{in-way-empty, in-way-inside}
-use Rattle.rows.specs.Order.{ahead, idle, token, waiting}
-use Rattle.rows.specs.OrderLaws.{ahead-set, in-way-set}
-use Rattle.rows.specs.SweepLaws.{distinct-settled, row-settled, swept-idle}
-use Rattle.rows.specs.Sweep.{settled, sweptRow}
-use Rattle.rows.specs.Turns.{at-set, distinct-rows, distinct-set, distinct-test, live-within, waiting-reads}
-use Rattle.rows.specs.declared.row.Row.{Row}
-use Rattle.arbiter.specs.Meaning.{accepted, askedRow, moved, openedRow, releasedRow, timeAt}
-use Rattle.arbiter.specs.declared.table.Table.{Table}
 use Rattle.promises.specs.Kept.Words.{Accepts, Acts, Asked, Decided, Swept, grants, waits, Alike, Clearer, Onward}
 use Rattle.promises.specs.Kept.Accepted.{acts, open-idle, passed, was-sound}
 use Rattle.promises.specs.Kept.Decisions.{asks, sweeps}
 use Rattle.promises.specs.Kept.Rows.{alike-clearer, alike-kept, alike-opened, alike-self, alike-settled, carried, decided, decided-alike}
-use Rattle.arbiter.specs.Sound.{rowIn}
 use Rattle.promises.specs.Sound.Words.{LiveRow, SoundRow, SoundTable}
 use Rattle.promises.specs.Sound.Tests.{idle-sound}
 

@@ -1,33 +1,11 @@
 -- What accepted events do and never do, by name.
-use Prim.Native.Nat.{ℕ, _+_, _<_}
-use mathlib.Core.Bool.{Bool, true, false, cond, not, and-false}
-use mathlib.Core.Path.{_≡_, refl, ap, _∙_}
-use native.Mathlib.Omega.{arith}
-use borrow.Author.Tests.{ltb-true, lt-ltb, not-false}
-use lib.ListN.{length}
-use lib.Seq.{getD-set-same}
-use Rattle.event.specs.declared.clock.Tick.{Tick}
+use Rattle.promises.specs.Prelude.{_+_, _<_, Ask, Bool, InTheWay, Open, Release, Row, Table, Tick, acceptance-tells, accepted, and-false, answer, ap, arith, askedRow, blocked, case, cases, cond, false, fine, getD-set-same, idle, in-way-at, inWay, inside, inside-reads, inside-trans, jobs, length, live-within, lt-ltb, ltb-true, meets-reads, member, member-without, next, not, not-false, openedRow, refl, releasedRow, rowIn, said, timeAt, token, true, without, ℕ, _∙_, _≡_}
 use Rattle.event.specs.declared.events.Event.{Event}
-use Rattle.event.specs.declared.events.Event.the-variants.{Open, Ask, Release}
-use Rattle.laws.specs.CaseLaws.{acceptance-tells}
-use Rattle.laws.specs.Cases.{case, fine}
-use Rattle.laws.specs.Sets.{inside, member, without}
-use Rattle.laws.specs.SetLaws.{inside-reads, inside-trans, meets-reads, member-without}
-use Rattle.rows.specs.Propositions.{InTheWay}
-use Rattle.rows.specs.InWay.{in-way-at}
-use Rattle.event.specs.Limits.{jobs}
-use Rattle.rows.specs.Order.{blocked, idle, inWay, token}
-use Rattle.rows.specs.Turns.{live-within}
-use Rattle.rows.specs.declared.row.Row.{Row}
 use Rattle.arbiter.specs.Answers as Answers
-use Rattle.arbiter.specs.Meaning.{accepted, answer, askedRow, next, openedRow, releasedRow, timeAt, said}
-use Rattle.arbiter.specs.Refusals.{cases}
-use Rattle.arbiter.specs.declared.table.Table.{Table}
 use Rattle.promises.specs.Kept.Words.{Accepts, Asked, Decided, grants, waits}
 use Rattle.promises.specs.Kept.Accepted.{acts, answer-accepted, next-accepted, open-below, passed, was-sound}
 use Rattle.promises.specs.Kept.Decisions.{asks}
 use Rattle.promises.specs.Kept.Events.{accepted-kept}
-use Rattle.arbiter.specs.Sound.{rowIn}
 use Rattle.promises.specs.Sound.Words.{SoundTable}
 
 pub next-kept : (n : ℕ) (t : Table) (e : Event) → Accepts n t e → SoundTable (next n t e)

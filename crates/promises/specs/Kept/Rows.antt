@@ -1,26 +1,5 @@
 -- When a row stays sound, though the table around it moves on.
-use Prim.Native.Nat.{ℕ, _<_, _≤_}
-use mathlib.Core.Bool.{Bool, true, false, not, _&&_, _||_}
-use mathlib.Core.List.{List}
-use mathlib.Core.Path.{_≡_, refl, sym, ap, _∙_}
-use native.Mathlib.Decide.{decLe}
-use native.Mathlib.Nat.{le-of-eq}
-use native.Mathlib.Omega.{arith}
-use lib.Dec.{ltb}
-use lib.ListN.{length, set}
-use lib.Seq.{set-out}
-use Rattle.laws.specs.Bools.{bit}
-use Rattle.laws.specs.Sets.{inside, meets}
-use Rattle.laws.specs.SetLaws.{inside-empty, inside-union, meets-empty, union-self}
-use Rattle.rows.specs.InWay.{in-way-union}
-use Rattle.rows.specs.Line.{rowOf}
-use Rattle.rows.specs.Order.{ahead, claims, earlier, idle, live, waiting}
-use Rattle.rows.specs.OrderLaws.{ahead-set, in-way-set}
-use Rattle.rows.specs.SweepLaws.{ahead-settled, in-way-settled}
-use Rattle.rows.specs.Sweep.{settled}
-use Rattle.rows.specs.Turns.{not-earlier}
-use Rattle.rows.specs.declared.row.Row.{Row}
-use Rattle.arbiter.specs.declared.table.Table.{Table}
+use Rattle.promises.specs.Prelude.{_&&_, _<_, Bool, List, Row, Table, ahead, ahead-set, ahead-settled, ap, arith, bit, claims, decLe, earlier, false, idle, in-way-set, in-way-settled, in-way-union, inside, inside-empty, inside-union, le-of-eq, length, live, ltb, meets, meets-empty, not, not-earlier, refl, rowOf, set, set-out, settled, sym, true, union-self, waiting, _||_, ℕ, _∙_, _≡_, _≤_}
 use Rattle.promises.specs.Kept.Words.{Decided, grants, waits, Alike, Onward, Clearer}
 use Rattle.promises.specs.Sound.Words.{LiveRow}
 

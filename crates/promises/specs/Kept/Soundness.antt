@@ -1,31 +1,7 @@
 -- Soundness is kept: every table that calls lead to from an accepted start is sound, so none is ever refused as 3.
-use Prim.Native.Nat.{ℕ, zero, suc, _^_, _<_}
-use mathlib.Core.Bool.{Bool, true, false, cond, not, true≢false}
-use mathlib.Core.List.{List, [], _∷_, _++_}
-use mathlib.Core.Path.{_≡_, refl, sym, ap, _∙_}
-use native.Mathlib.Omega.{arith}
-use borrow.Author.Tests.{not-false}
-use lib.Dec.{ltb}
-use lib.ListN.{length, replicate}
+use Rattle.promises.specs.Prelude.{_++_, _<_, Bool, Call, Case, List, NoSuchJob, NotLive, Refusal, Row, ShortList, Table, UnsoundTable, [], _^_, about, acceptance-tells, accepted, answer, ap, applies, arith, asked, calling, case, cases, casesBy, clear, clockRefusals, cond, course, false, fine, first, first-named, freshTable, holds, idle, jobOf, jobs, keepUnless, late, leaves, length, listCases, ltb, next, noTable, not, not-false, outcome, overdue, ranges, refl, refusal-tells, refused, refusing, replicate, report, reported, rowIn, rowOf, run, said, setOf, sound, startAnswer, startCases, startTable, suc, sym, tickOf, true, true≢false, zero, ℕ, _∙_, _∷_, _≡_}
 use Rattle.event.specs.declared.events.Event.{Event}
-use Rattle.laws.specs.Cases.{Case, case, first, leaves, outcome, refused, fine, keepUnless}
-use Rattle.laws.specs.CaseLaws.{acceptance-tells, clear, refusal-tells}
-use Rattle.rows.specs.Line.{rowOf}
-use Rattle.event.specs.Limits.{jobs}
-use Rattle.rows.specs.Order.{idle}
-use Rattle.rows.specs.declared.row.Row.{Row}
 use Rattle.arbiter.specs.Answers as Answers
-use Rattle.arbiter.specs.Meaning.{accepted, answer, freshTable, late, next, noTable, overdue, report, reported, run, said, startAnswer, startTable, course}
-use Rattle.arbiter.specs.Refusals.{Call, calling, applies, cases, listCases, startCases}
-use Rattle.event.specs.Events.{about, asked, jobOf, setOf, tickOf}
-use Rattle.event.specs.Clock.{clockRefusals}
-use Rattle.event.specs.RefusalLaws.{first-named}
-use Rattle.event.specs.Refusals.{casesBy, refusing}
-use Rattle.event.specs.declared.refusal.Refusal.{Refusal}
-use Rattle.event.specs.declared.refusal.Refusal.the-variants.{NoSuchJob, NotLive, ShortList, UnsoundTable}
-use Rattle.laws.specs.Lists.{holds}
-use Rattle.arbiter.specs.Sound.{rowIn, ranges, sound}
-use Rattle.arbiter.specs.declared.table.Table.{Table}
 use Rattle.promises.specs.Kept.Words.{Accepts, NeverUnsound}
 use Rattle.promises.specs.Kept.Accepted.{leaves-new}
 use Rattle.promises.specs.Kept.Events.{accepted-kept}

@@ -1,37 +1,12 @@
 -- Whom an accepted event wakes, and what becomes of a wait.
-use Prim.Native.Nat.{ℕ, _<_, _≤_}
-use mathlib.Core.Bool.{Bool, true, false, cond, not, _&&_, and-not-self, true≢false, false≢true}
-use mathlib.Core.List.{List, [], _∷_, List·Memᴰ, List·Memᴰ·cases-cons, List·Memᴰ·not-nil}
-use mathlib.Core.Logic.{_⊎_, inl, inr}
-use mathlib.Core.Path.{_≡_, refl, sym, ap, subst, _∙_}
-use native.Mathlib.Decide.{decLt}
-use native.Mathlib.Omega.{arith}
-use borrow.Author.Tests.{eqb-false, not-true}
-use lib.Dec.{eqb}
-use lib.ListN.{getD, set}
-use lib.Seq.{getD-set-other}
-use Rattle.event.specs.declared.clock.Tick.{Tick}
+use Rattle.promises.specs.Prelude.{_&&_, _<_, Bool, Each, List, List·Memᴰ, List·Memᴰ·cases-cons, List·Memᴰ·not-nil, Release, Row, Table, Tick, [], about, accepted, and-not-self, and-right, ap, arith, cond, decLt, each-head, each-tail, eqb, eqb-false, false, false≢true, getD, getD-set-other, hasJob, idle, inl, inr, jobOf, keep, line, names, next, not, not-true, refl, row-settled, rowAfter, rowIn, rowOf, rowsWith, set, settled, subst, sweptRow, sym, tickOf, timeAt, true, true≢false, waiting, waiting-reads, wakes, woken, ℕ, _∙_, _∷_, _≡_, _≤_, _⊎_}
 use Rattle.event.specs.declared.events.Event.{Event}
-use Rattle.event.specs.declared.events.Event.the-variants.{Release}
-use Rattle.laws.specs.BoolLaws.{and-right}
-use Rattle.rows.specs.Propositions.{Each}
-use Rattle.rows.specs.LineLaws.{each-head, each-tail}
-use Rattle.rows.specs.Line.{keep, line, rowOf}
-use Rattle.rows.specs.Order.{idle, waiting}
-use Rattle.rows.specs.SweepLaws.{row-settled}
-use Rattle.rows.specs.Sweep.{settled, sweptRow, woken}
-use Rattle.rows.specs.Turns.{waiting-reads}
-use Rattle.rows.specs.declared.row.Row.{Row}
-use Rattle.arbiter.specs.Meaning.{accepted, next, rowAfter, rowsWith, timeAt, wakes}
-use Rattle.arbiter.specs.declared.table.Table.{Table}
-use Rattle.event.specs.Events.{about, hasJob, jobOf, names, tickOf}
 use Rattle.promises.specs.Kept.Words.{Accepts, Decided, Swept, waits, Alike, Fate, same, acted, stayed}
 use Rattle.promises.specs.Kept.Accepted.{named-rests, next-accepted, next-tokens, was-sound}
 use Rattle.promises.specs.Kept.Changes.{alike-quiet}
 use Rattle.promises.specs.Kept.Decisions.{sweeps}
 use Rattle.promises.specs.Kept.Named.{next-kept}
 use Rattle.promises.specs.Kept.Rows.{alike-settled, decided-alike, waiting-alike}
-use Rattle.arbiter.specs.Sound.{rowIn}
 use Rattle.promises.specs.Sound.Words.{SoundTable}
 use Rattle.promises.specs.Sound.Facts.{not-idle, turns-given}
 

@@ -1,22 +1,5 @@
 -- What holds of every sound table, and so of every table that calls lead to.
-use Prim.Native.Nat.{ℕ, _<_, _≤_, min}
-use mathlib.Core.Bool.{Bool, true, false, cond, _&&_, and-eq-true-iff, false≢true}
-use mathlib.Core.List.{List}
-use mathlib.Core.Path.{_≡_, refl, sym, ap, _∙_}
-use native.Mathlib.Decide.{decLt}
-use native.Mathlib.Omega.{arith}
-use borrow.Author.Tests.{ltb-true}
-use Rattle.laws.specs.Counts.{count-at, count-same, count-some}
-use Rattle.laws.specs.Lists.{count}
-use Rattle.laws.specs.SetLaws.{inside-reads, member-empty}
-use Rattle.laws.specs.Sets.{meets, member}
-use Rattle.rows.specs.InWay.{in-way-ahead, in-way-at}
-use Rattle.rows.specs.Line.{rowOf}
-use Rattle.rows.specs.Order.{ahead, claims, earlier, idle, inWay, live, token, waiting}
-use Rattle.rows.specs.Turns.{distinct-test, waiting-reads}
-use Rattle.rows.specs.declared.row.Row.{Row}
-use Rattle.arbiter.specs.Sound.{sound, soundRow, rowIn}
-use Rattle.arbiter.specs.declared.table.Table.{Table}
+use Rattle.promises.specs.Prelude.{_&&_, _<_, Bool, List, Row, Table, ahead, and-eq-true-iff, ap, arith, claims, cond, count, count-at, count-same, count-some, decLt, distinct-test, earlier, false, false≢true, idle, in-way-ahead, in-way-at, inWay, inside-reads, live, ltb-true, meets, member, member-empty, min, refl, rowIn, rowOf, sound, soundRow, sym, token, true, waiting, waiting-reads, ℕ, _∙_, _≡_, _≤_}
 use Rattle.promises.specs.Kept.Words.{Alike}
 use Rattle.promises.specs.Sound.Words.{SoundTable, SameNumbers, seen, holdsToken}
 use Rattle.promises.specs.Sound.Tests.{table-sound}

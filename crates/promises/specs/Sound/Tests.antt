@@ -1,23 +1,5 @@
 -- A sound table in plain propositions: what the tests of `sound` say, and that they say no more.
-use Prim.Native.Nat.{ℕ, _<_, _≤_}
-use mathlib.Core.Bool.{Bool, true, false, cond, not, _&&_}
-use mathlib.Core.List.{List, _++_}
-use mathlib.Core.Path.{_≡_, refl, ap}
-use native.Mathlib.Nat.{le-of-eq}
-use native.Mathlib.Omega.{arith}
-use borrow.Author.Tests.{ltb-true, ltb-false, lt-ltb, le-ltb, leb-true, le-leb, eqb-true, eq-eqb, not-true}
-use lib.Arith.{le-zero}
-use lib.Dec.{leb, ltb}
-use Rattle.laws.specs.BoolLaws.{and-left, and-right, denied, denying, implied, implying}
-use Rattle.laws.specs.Counts.{all-each, each-all}
-use Rattle.laws.specs.Lists.{all, holds}
-use Rattle.rows.specs.Order.{distinct, idle, live, waiting}
-use Rattle.rows.specs.Turns.{distinct-rows, distinct-test, waiting-reads}
-use Rattle.rows.specs.declared.row.Row.{Row}
-use Rattle.laws.specs.Chains.{_and_, none}
-use Rattle.laws.specs.HoldLaws.{hold, nth}
-use Rattle.arbiter.specs.Sound.{counters, idleConditions, ownConditions, placeConditions, ranges, rowIn, sound, soundRow, waitingIn, within}
-use Rattle.arbiter.specs.declared.table.Table.{Table}
+use Rattle.promises.specs.Prelude.{_&&_, _++_, _<_, Bool, List, Row, Table, all, all-each, _and_, and-left, and-right, ap, arith, cond, counters, denied, denying, distinct, distinct-rows, distinct-test, each-all, eq-eqb, eqb-true, false, hold, holds, idle, idleConditions, implied, implying, le-leb, le-ltb, le-of-eq, le-zero, leb, leb-true, live, lt-ltb, ltb, ltb-false, ltb-true, none, not, not-true, nth, ownConditions, placeConditions, ranges, refl, rowIn, sound, soundRow, true, waiting, waiting-reads, waitingIn, within, ℕ, _≡_, _≤_}
 use Rattle.promises.specs.Sound.Words.{LiveRow, SoundRow, InRange, SoundTable}
 
 -- ---- The propositions

@@ -1,21 +1,5 @@
 -- How the number ahead rises from turn to turn, and so how many live rows have fewer than T ahead.
-use Prim.Native.Nat.{ℕ, zero, suc, _+_, _<_, _≤_, min}
-use mathlib.Core.Bool.{Bool, true, false, _&&_, and-eq-true-iff}
-use mathlib.Core.List.{List}
-use mathlib.Core.Path.{_≡_, refl, _∙_}
-use native.Mathlib.Decide.{decLe}
-use native.Mathlib.Nat.{le-antisymm, le-of-eq, not-suc-le-zero}
-use native.Mathlib.Omega.{arith}
-use borrow.Author.Tests.{eqb-true, eqb-false, lt-ltb, le-ltb, ltb-true, ltb-false}
-use lib.Dec.{eqb, ltb}
-use Rattle.laws.specs.Bools.{bit}
-use Rattle.laws.specs.Counts.{count-at, count-mono, count-some, count-sum}
-use Rattle.laws.specs.Lists.{count}
-use Rattle.rows.specs.InWay.{ahead-mono}
-use Rattle.rows.specs.Line.{rowOf}
-use Rattle.rows.specs.Order.{ahead, bears, distinct, earlier, idle, live, token}
-use Rattle.rows.specs.Turns.{bears-own, bears-turn, distinct-at, earlier-turn, turn-earlier}
-use Rattle.rows.specs.declared.row.Row.{Row}
+use Rattle.promises.specs.Prelude.{_&&_, _+_, _<_, Bool, List, Row, ahead, ahead-mono, and-eq-true-iff, arith, bears, bears-own, bears-turn, bit, count, count-at, count-mono, count-some, count-sum, decLe, distinct, distinct-at, earlier, earlier-turn, eqb, eqb-false, eqb-true, false, idle, le-antisymm, le-ltb, le-of-eq, live, lt-ltb, ltb, ltb-false, ltb-true, min, not-suc-le-zero, refl, rowOf, suc, token, true, turn-earlier, zero, ℕ, _∙_, _≡_, _≤_}
 use Rattle.promises.specs.Sound.Words.{holdsToken}
 
 -- below the next number lie those below this one, and this one

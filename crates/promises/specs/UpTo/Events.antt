@@ -1,23 +1,7 @@
 -- What an event does to the requests of turns up to n: none of another changes anything of theirs, and whom it wakes among
 -- them is said by their rows alone.
-use Prim.Native.Nat.{ℕ, _+_}
-use mathlib.Core.Bool.{Bool, true, false, cond, _&&_, false≢true, true≢false}
-use mathlib.Core.List.{[], _∷_}
-use mathlib.Core.Path.{_≡_, refl, sym, ap, _∙_}
-use native.Mathlib.Omega.{arith}
-use borrow.Author.Tests.{eqb-true, lt-ltb, ltb-true}
-use lib.Dec.{eqb}
-use lib.ListN.{length-map}
-use lib.Seq.{ext-getD}
-use Rattle.event.specs.Events.{about, hasJob, jobOf}
+use Rattle.promises.specs.Prelude.{_&&_, _+_, Bool, Table, [], about, accepted, ap, arith, cond, course, earlier, earlier-turn, eqb, eqb-true, ext-getD, false, false≢true, hasJob, idle, jobOf, jobs, keep, length-map, lt-ltb, ltb-true, next, refl, rowIn, sym, true, true≢false, turn-earlier, wakes, woken, ℕ, _∙_, _∷_, _≡_}
 use Rattle.event.specs.declared.events.Event.{Event}
-use Rattle.rows.specs.Line.{keep}
-use Rattle.event.specs.Limits.{jobs}
-use Rattle.rows.specs.Order.{earlier, idle}
-use Rattle.rows.specs.Sweep.{woken}
-use Rattle.rows.specs.Turns.{earlier-turn, turn-earlier}
-use Rattle.arbiter.specs.Meaning.{accepted, next, wakes, course}
-use Rattle.arbiter.specs.declared.table.Table.{Table}
 use Rattle.promises.specs.Demand.Statement.{Beside}
 use Rattle.promises.specs.Demand.Others.{unmoved}
 use Rattle.promises.specs.History.Words.{lists, taken, Along}
@@ -26,7 +10,6 @@ use Rattle.promises.specs.History.Count.{along-next}
 use Rattle.promises.specs.History.Turn.{back-run}
 use Rattle.promises.specs.Kept.Accepted.{next-accepted}
 use Rattle.promises.specs.Kept.Woken.{wakes-woken}
-use Rattle.arbiter.specs.Sound.{rowIn}
 use Rattle.promises.specs.Sound.Words.{seen}
 use Rattle.promises.specs.UpTo.Statement.{isOfThem, ofThem, upTo}
 use Rattle.promises.specs.UpTo.Line.{woken-none, woken-up-to}

@@ -1,18 +1,7 @@
 -- With and without a latecomer: in the history of DemandExample job 7 opens, or only the clock moves. What jobs 1 to 6 live
 -- through is the same from then on.
-use mathlib.Core.Bool.{true}
-use mathlib.Core.Path.{_≡_, refl}
-use native.Mathlib.Omega.{arith}
+use Rattle.promises.specs.Prelude.{Beat, Table, ahead, all, arith, below, count, course, distinct, first, inWay, inside, jobs, leaves, meet, meets, next, refl, sound, startTable, true, _≡_}
 use Rattle.event.specs.declared.events.Event.{Event}
-use Rattle.event.specs.declared.events.Event.the-variants.{Beat}
-use Rattle.laws.specs.Cases.{first, leaves}
-use Rattle.laws.specs.Lists.{all, count}
-use Rattle.laws.specs.Sets.{below, inside, meet, meets}
-use Rattle.event.specs.Limits.{jobs}
-use Rattle.rows.specs.Order.{ahead, distinct, inWay}
-use Rattle.arbiter.specs.Meaning.{next, startTable, course}
-use Rattle.arbiter.specs.Sound.{sound}
-use Rattle.arbiter.specs.declared.table.Table.{Table}
 use Rattle.promises.specs.Demand.Statement.{afterOpening}
 use Rattle.promises.specs.Demand.Example.{all-open, at, this}
 use Rattle.promises.specs.History.Words.{Along}

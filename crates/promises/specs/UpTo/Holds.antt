@@ -1,21 +1,6 @@
 -- Requests of turns up to n: what they live through depends on the rows of turns up to n alone. The proof.
-use Prim.Native.Nat.{ℕ, _+_}
-use mathlib.Core.Bool.{Bool, true, false, cond, false≢true}
-use mathlib.Core.List.{List, [], _∷_, _++_}
-use mathlib.Core.Path.{_≡_, refl, sym, ap, _∙_}
-use native.Mathlib.Omega.{arith}
-use lib.ListN.{length, set}
+use Rattle.promises.specs.Prelude.{_+_, _++_, Ask, Beat, Bool, Case, Complete, List, Open, Release, Row, Table, TurnsSpent, [], about, accepted, among, answer, ap, arith, asked, cases, cond, course, earlier-turn, false, false≢true, hasJob, jobOf, jobs, keep, lastAfter, lateAt, lateJob, length, line, listCases, moved, next, outcome, refl, releasedRow, rowAfter, rowIn, rowsAfter, rowsWith, run, saysDone, saysGranted, saysWait, saysWoke, set, setOf, settled, sound, sym, tickOf, timeAt, true, union, wakes, woken, ℕ, _∙_, _∷_, _≡_}
 use Rattle.event.specs.declared.events.Event.{Event}
-use Rattle.event.specs.declared.events.Event.the-variants.{Beat, Open, Ask, Release, Complete}
-use Rattle.laws.specs.Cases.{outcome, Case}
-use Rattle.laws.specs.Sets.{union}
-use Rattle.rows.specs.Line.{keep, line}
-use Rattle.event.specs.Limits.{jobs}
-use Rattle.rows.specs.Sweep.{settled, woken}
-use Rattle.rows.specs.Turns.{earlier-turn}
-use Rattle.rows.specs.declared.row.Row.{Row}
-use Rattle.arbiter.specs.Sound.{sound, rowIn}
-use Rattle.arbiter.specs.declared.table.Table.{Table}
 use Rattle.promises.specs.History.Events.{accepts}
 use Rattle.promises.specs.History.Words.{isFine, taken, Along}
 use Rattle.promises.specs.History.Count.{along-next}
@@ -28,12 +13,6 @@ use Rattle.promises.specs.UpTo.Events.{listed-woken, others, refused-sta
 use Rattle.promises.specs.UpTo.Line.{late-up-to}
 use Rattle.promises.specs.UpTo.Rows.{set-up-to, settled-up-to}
 use Rattle.promises.specs.UpTo.Same.{but-number, fine-but-number, same-blocked, same-cases, same-of, same-open, same-report, same-row, same-time}
-use Rattle.arbiter.specs.Refusals.{cases, listCases}
-use Rattle.arbiter.specs.Answers.{saysDone, saysGranted, saysWait, saysWoke}
-use Rattle.arbiter.specs.Meaning.{accepted, answer, lastAfter, lateAt, lateJob, moved, next, releasedRow, rowAfter, rowsAfter, rowsWith, run, timeAt, wakes, course}
-use Rattle.event.specs.Events.{about, asked, hasJob, jobOf, setOf, tickOf}
-use Rattle.event.specs.Refusals.{among}
-use Rattle.event.specs.declared.refusal.Refusal.the-variants.{TurnsSpent}
 
 module _ {T n : ℕ} {t u : Table} (along-t : Along T n t) (along-u : Along T n u) (sound-t : sound t ≡ true)
     (sound-u : sound u ≡ true) (a : Agree n t u) where

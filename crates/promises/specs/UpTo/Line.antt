@@ -1,20 +1,5 @@
 -- The jobs of turns up to n in line, and those of them that are woken, are those of the rows up to n alone.
-use Prim.Native.Nat.{ℕ, _+_, _-_, _<_}
-use mathlib.Core.Bool.{Bool, true, false, cond, not, _&&_, and-false, and-not-self, and-true, true≢false}
-use mathlib.Core.List.{List, [], _∷_}
-use mathlib.Core.Path.{_≡_, refl, sym, ap, fun-ext, _∙_}
-use native.Mathlib.Omega.{arith}
-use borrow.Author.Tests.{lt-ltb, ltb-true}
-use lib.Dec.{leb, ltb}
-use lib.ListN.{getD, length, length-map}
-use Rattle.rows.specs.Propositions.{InTurn}
-use Rattle.rows.specs.InLine.{lined-in-turn}
-use Rattle.rows.specs.Line.{from, keep, line, lined, place, rowOf}
-use Rattle.rows.specs.Order.{earlier, idle, live, waiting}
-use Rattle.rows.specs.Sweep.{woke, woken}
-use Rattle.rows.specs.Turns.{earlier-turn, not-earlier, turn-earlier}
-use Rattle.rows.specs.declared.row.Row.{Row}
-use Rattle.arbiter.specs.Meaning.{lateJob}
+use Rattle.promises.specs.Prelude.{_&&_, _+_, _-_, _<_, Bool, InTurn, List, Row, [], and-false, and-not-self, and-true, ap, arith, cond, earlier, earlier-turn, false, from, fun-ext, getD, idle, keep, lateJob, leb, length, length-map, line, lined, lined-in-turn, live, lt-ltb, ltb, ltb-true, not, not-earlier, place, refl, rowOf, sym, true, true≢false, turn-earlier, waiting, woke, woken, ℕ, _∙_, _∷_, _≡_}
 use Rattle.promises.specs.Kept.Woken.{keep-none}
 use Rattle.promises.specs.Sound.Words.{seen}
 use Rattle.promises.specs.UpTo.Statement.{upTo}

@@ -1,16 +1,5 @@
 -- What the rows of turns up to n decide: who stands before, what is in the way, who waits, what a sweep leaves.
-use Prim.Native.Nat.{ℕ, zero, suc, _+_, _≤_}
-use mathlib.Core.Bool.{Bool, true, false, cond, true≢false}
-use mathlib.Core.List.{List, [], _∷_, map, map-map}
-use mathlib.Core.Path.{_≡_, refl, sym, ap, fun-ext, _∙_}
-use native.Mathlib.Omega.{arith}
-use lib.ListN.{List·getD-map, set}
-use Rattle.rows.specs.Line.{rowOf}
-use Rattle.rows.specs.Order.{earlier, idle, waiting}
-use Rattle.rows.specs.Sweep.{settled, sweptRow}
-use Rattle.rows.specs.SweepLaws.{swept-idle, swept-keeps}
-use Rattle.rows.specs.Turns.{earlier-turn, turn-earlier}
-use Rattle.rows.specs.declared.row.Row.{Row}
+use Rattle.promises.specs.Prelude.{_+_, Bool, List, List·getD-map, Row, [], ap, arith, cond, earlier, earlier-turn, false, fun-ext, idle, map, map-map, refl, rowOf, set, settled, suc, swept-idle, swept-keeps, sweptRow, sym, true, true≢false, turn-earlier, waiting, zero, ℕ, _∙_, _∷_, _≡_, _≤_}
 use Rattle.promises.specs.History.Row.{swept-alike}
 use Rattle.promises.specs.Kept.Words.{Alike}
 use Rattle.promises.specs.Kept.Rows.{waiting-alike}

@@ -1,39 +1,11 @@
 -- What is the same on two tables that agree up to turn n: the row of each request up to n, who stands before it, what is in
 -- its way, and so what it is answered.
-use Prim.Native.Nat.{ℕ, zero, suc, _+_, _<_, _≤_}
-use mathlib.Core.Bool.{Bool, true, false, not, _&&_, _||_, true≢false}
-use mathlib.Core.List.{List, [], _∷_}
-use mathlib.Core.Path.{_≡_, refl, sym, ap, _∙_}
-use native.Mathlib.Omega.{arith}
-use lib.Dec.{eqb, leb, ltb}
-use Rattle.event.specs.Clock.{difference, goneBack, timeSpent}
-use Rattle.event.specs.declared.clock.Tick.{Tick}
+use Rattle.promises.specs.Prelude.{_&&_, _+_, _<_, AlreadyHeld, AlreadyLive, BadStart, BitSet, Bool, Case, ClockGoneBack, EmptySet, List, NoSuchJob, NoSuchResource, NoToken, NotDeclared, NotHeld, NotLive, Open, Outcome, Refusal, Row, Said, ShortList, StartOutOfPlace, StillWaiting, Table, Tick, TimeSpent, TurnsSpent, UnknownKind, UnsoundTable, WrongLength, [], about, ahead, among, and-left, answer, ap, applies, arith, below, blocked, calling, casesBy, difference, earlier, earlier-turn, eqb, false, fine, first, first-front, goneBack, hasJob, inWay, inside, jobOf, jobs, leb, live, lt-irrefl, ltb, meets, not, numberOf, outcome, refl, refused, refusing, report, rowIn, rowOf, said, saysDone, saysGranted, saysToken, saysWait, saysWoke, some-first, sound, suc, sym, timeAt, timeSpent, true, true≢false, unless, when, zero, _||_, ℕ, _∙_, _∷_, _≡_, _≤_}
 use Rattle.event.specs.declared.events.Event.{Event}
-use Rattle.event.specs.declared.events.Event.the-variants.{Open}
-use Rattle.laws.specs.Cases.{Case, Outcome, refused, fine, first, outcome, unless, when}
-use Rattle.rows.specs.Line.{rowOf}
-use Rattle.event.specs.Limits.{jobs}
-use Rattle.rows.specs.Order.{ahead, blocked, earlier, inWay, live}
-use Rattle.rows.specs.Turns.{earlier-turn}
-use Rattle.rows.specs.declared.row.Row.{Row}
-use Rattle.arbiter.specs.Answers.{Said, saysDone, saysGranted, saysToken, saysWait, saysWoke}
-use Rattle.arbiter.specs.Meaning.{answer, report, timeAt, said}
-use Rattle.arbiter.specs.Refusals.{applies, calling}
-use Rattle.arbiter.specs.Sound.{sound, rowIn}
-use Rattle.arbiter.specs.declared.table.Table.{Table}
 use Rattle.promises.specs.History.Words.{isFine}
 use Rattle.promises.specs.Sound.Words.{seen}
 use Rattle.promises.specs.UpTo.Statement.{Agree, isOfThem, butNumber, ofThem}
 use Rattle.promises.specs.UpTo.Rows.{alike-up-to, earlier-seen, row-up-to, seen-in}
-use Rattle.event.specs.Events.{about, hasJob, jobOf}
-use Rattle.event.specs.RefusalLaws.{some-first}
-use Rattle.event.specs.Refusals.{among, casesBy, numberOf, refusing}
-use Rattle.event.specs.declared.refusal.Refusal.{Refusal}
-use Rattle.event.specs.declared.refusal.Refusal.the-variants.{BadStart, ShortList, UnsoundTable, NoSuchJob, ClockGoneBack, TimeSpent, AlreadyLive, NotLive, NoToken, StillWaiting, EmptySet, NoSuchResource, NotDeclared, AlreadyHeld, NotHeld, TurnsSpent, WrongLength, UnknownKind, BitSet, StartOutOfPlace}
-use native.Mathlib.Nat.{lt-irrefl}
-use Rattle.laws.specs.BoolLaws.{and-left}
-use Rattle.laws.specs.CaseLaws.{first-front}
-use Rattle.laws.specs.Sets.{below, inside, meets}
 
 -- a refusal is one whatever the value would have been
 unless-some : {A : Type 0} (x y : A) (k : ℕ) → 0 < k → unless k x ≡ unless k y

@@ -1,5 +1,5 @@
 -- The refusal is told, and the table is the one that was handed in.
-use mathlib.Core.Path.{refl}
+use Rattle.arbiter.specs.Prelude.{refl}
 use Rattle.arbiter.proofs.calls.refused.Statement.{statement}
 use Rattle.arbiter.proofs.calls.refused.Tie as tie
 

@@ -1,8 +1,5 @@
 -- `arbiter::effect::asked` meets its contract: what is known of the row's turn says whether Q3 forbids the set.
-use mathlib.Core.Path.{_≡_, sym, _∙_}
-use borrow.Author.Needs.{needs}
-use Rattle.rows.specs.Line.{rowOf}
-use Rattle.rows.specs.Order.{blocked}
+use Rattle.arbiter.specs.Prelude.{blocked, needs, rowOf, sym, _∙_, _≡_}
 use Rattle.arbiter.proofs.effect.asked.Statement.{statement}
 use Rattle.arbiter.proofs.effect.asked.Tie as tie
 

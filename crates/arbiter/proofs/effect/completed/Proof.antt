@@ -1,16 +1,6 @@
 -- `arbiter::effect::completed` meets its contract: what is known of the changed rows is known of the settled ones, and the marked
 -- jobs of their line are those woken.
-use Prim.Native.Nat.{ℕ}
-use mathlib.Core.Path.{_≡_, ap, _∙_}
-use native.Mathlib.Omega.{arith}
-use borrow.Author.Needs.{needs}
-use lib.ListN.{length, set}
-use Rattle.laws.specs.Cases.{fine}
-use Rattle.rows.specs.InLine.{lines-valid, listed-line}
-use Rattle.rows.specs.KnownLaws.{surveyed-settled}
-use Rattle.event.specs.Limits.{jobs}
-use Rattle.rows.specs.Sweep.{settled, woke, woken}
-use Rattle.rows.specs.declared.row.Row.{Row}
+use Rattle.arbiter.specs.Prelude.{Row, ap, arith, fine, jobs, length, lines-valid, listed-line, needs, set, settled, surveyed-settled, woke, woken, ℕ, _∙_, _≡_}
 use Rattle.arbiter.specs.Answers as Answers
 use Rattle.arbiter.specs.Effects.{completedRows}
 use Rattle.arbiter.specs.Meaning.{moved}

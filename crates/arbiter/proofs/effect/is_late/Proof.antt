@@ -1,6 +1,5 @@
 -- `arbiter::effect::is_late` meets its contract: the tests are those of the definition.
-use mathlib.Core.Path.{sym, _∙_}
-use borrow.Author.Needs.{needs}
+use Rattle.arbiter.specs.Prelude.{needs, sym, _∙_}
 use Rattle.arbiter.proofs.effect.is_late.Statement.{statement}
 use Rattle.arbiter.proofs.effect.is_late.Tie as tie
 

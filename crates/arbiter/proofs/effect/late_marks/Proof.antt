@@ -1,17 +1,5 @@
 -- `arbiter::effect::late_marks` meets its contract. The loop's invariant: the marks before place `i` are right.
-use Prim.Native.Nat.{ℕ, _≤_, _-_}
-use mathlib.Core.Bool.{Bool, false}
-use mathlib.Core.List.{List}
-use mathlib.Core.Path.{_≡_, refl, _∙_}
-use native.Mathlib.Omega.{arith}
-use borrow.Author.Needs.{needs}
-use lib.ListN.{getD, length}
-use Rattle.laws.specs.ListLaws.{Filled, filled-more}
-use Rattle.rows.specs.KnownLaws.{waiting-by}
-use Rattle.rows.specs.Line.{rowOf}
-use Rattle.event.specs.Limits.{jobs}
-use Rattle.rows.specs.Stand.{unknown}
-use Rattle.rows.specs.declared.row.Row.{Row}
+use Rattle.arbiter.specs.Prelude.{_-_, Bool, Filled, List, Row, arith, false, filled-more, getD, jobs, length, needs, refl, rowOf, unknown, waiting-by, ℕ, _∙_, _≡_, _≤_}
 use Rattle.arbiter.specs.Meaning.{lateJob}
 use Rattle.arbiter.proofs.effect.late_marks.Statement.{statement}
 use Rattle.arbiter.proofs.effect.late_marks.Tie as tie

@@ -1,10 +1,5 @@
 -- `arbiter::effect::listed_late` meets its contract: the marked jobs of the line are those overdue.
-use mathlib.Core.Path.{_≡_}
-use native.Mathlib.Omega.{arith}
-use borrow.Author.Needs.{needs}
-use lib.ListN.{length}
-use Rattle.rows.specs.InLine.{lines-valid, listed-line}
-use Rattle.event.specs.Limits.{jobs}
+use Rattle.arbiter.specs.Prelude.{arith, jobs, length, lines-valid, listed-line, needs, _≡_}
 use Rattle.arbiter.specs.Meaning.{lateAt, lateJob}
 use Rattle.arbiter.proofs.Arrays.{arrays}
 use Rattle.arbiter.proofs.effect.listed_late.Statement.{statement}

@@ -1,10 +1,5 @@
 -- `arbiter::effect::opened` meets its contract: what is known of the next turn says whether it has a token.
-use Prim.Native.Nat.{ℕ, _+_}
-use mathlib.Core.Path.{_≡_, sym, subst, _∙_}
-use borrow.Author.Needs.{needs}
-use Rattle.rows.specs.KnownLaws.{token-by}
-use Rattle.rows.specs.Order.{token}
-use Rattle.rows.specs.Stand.{Stands}
+use Rattle.arbiter.specs.Prelude.{_+_, Stands, needs, subst, sym, token, token-by, ℕ, _∙_, _≡_}
 use Rattle.arbiter.proofs.effect.opened.Statement.{statement}
 use Rattle.arbiter.proofs.effect.opened.Tie as tie
 

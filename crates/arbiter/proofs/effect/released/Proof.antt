@@ -1,6 +1,5 @@
 -- `arbiter::effect::released` meets its contract: the row is the definition's, and it stands in its place.
-use mathlib.Core.Path.{refl, _∙_}
-use borrow.Author.Needs.{needs}
+use Rattle.arbiter.specs.Prelude.{needs, refl, _∙_}
 use Rattle.arbiter.proofs.effect.released.Statement.{statement}
 use Rattle.arbiter.proofs.effect.released.Tie as tie
 

@@ -1,10 +1,5 @@
 -- `arbiter::effect::reported` meets its contract: what is known of the row's turn is what the rows say.
-use mathlib.Core.Path.{_∙_}
-use borrow.Author.Needs.{needs}
-use lib.ListN.{getD}
-use Rattle.rows.specs.KnownLaws.{token-by, waiting-by}
-use Rattle.rows.specs.Line.{rowOf}
-use Rattle.rows.specs.Stand.{unknown}
+use Rattle.arbiter.specs.Prelude.{getD, needs, rowOf, token-by, unknown, waiting-by, _∙_}
 use Rattle.arbiter.proofs.effect.reported.Statement.{statement}
 use Rattle.arbiter.proofs.effect.reported.Tie as tie
 

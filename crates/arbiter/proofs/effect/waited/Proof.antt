@@ -1,5 +1,5 @@
 -- A time before `since` gives no wait.
-use native.Mathlib.Omega.{arith}
+use Rattle.arbiter.specs.Prelude.{arith}
 use Rattle.arbiter.proofs.effect.waited.Statement.{statement}
 use Rattle.arbiter.proofs.effect.waited.Tie as tie
 

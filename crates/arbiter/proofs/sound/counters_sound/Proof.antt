@@ -1,8 +1,5 @@
 -- The tests are the conditions, joined in their order.
-use mathlib.Core.Bool.{and-true}
-use Rattle.laws.specs.BoolLaws.{not-ltb}
-use Rattle.laws.specs.Lists.{all}
-use borrow.Author.Needs.{needs}
+use Rattle.arbiter.specs.Prelude.{all, and-true, needs, not-ltb}
 use Rattle.arbiter.proofs.sound.counters_sound.Statement.{statement}
 use Rattle.arbiter.proofs.sound.counters_sound.Tie as tie
 

@@ -1,7 +1,5 @@
 -- The tests are the conditions, joined in their order.
-use mathlib.Core.Bool.{and-true}
-use Rattle.laws.specs.Lists.{all}
-use borrow.Author.Needs.{needs}
+use Rattle.arbiter.specs.Prelude.{all, and-true, needs}
 use Rattle.arbiter.proofs.sound.in_range.Statement.{statement}
 use Rattle.arbiter.proofs.sound.in_range.Tie as tie
 

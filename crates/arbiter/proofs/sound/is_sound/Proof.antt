@@ -1,6 +1,6 @@
 -- The parts of soundness, joined in their order.
+use Rattle.arbiter.specs.Prelude.{needs}
 use Rattle.arbiter.specs.Sound.{sound}
-use borrow.Author.Needs.{needs}
 use Rattle.arbiter.proofs.sound.is_sound.Statement.{statement}
 use Rattle.arbiter.proofs.sound.is_sound.Tie as tie
 

@@ -1,14 +1,7 @@
 -- An idle row is held against its own conditions, a live one against both lists.
-use mathlib.Core.Bool.{Bool, cond, _&&_}
-use mathlib.Core.List.{_++_}
-use mathlib.Core.Path.{sym, ap, ap₂, _∙_}
-use borrow.Author.Tests.{not-true, not-false}
-use Rattle.laws.specs.ListLaws.{all-append}
-use Rattle.laws.specs.Sets.{meets}
+use Rattle.arbiter.specs.Prelude.{_&&_, _++_, Bool, all-append, ap, ap₂, cond, holds, meets, needs, not-false, not-true, sym, _∙_}
 use Rattle.arbiter.specs.ByStanding.{ownBy, placeBy}
-use Rattle.laws.specs.Lists.{holds}
 use Rattle.arbiter.specs.Sound.{idleConditions}
-use borrow.Author.Needs.{needs}
 use Rattle.arbiter.proofs.sound.row_sound.Statement.{statement}
 use Rattle.arbiter.proofs.sound.row_sound.Tie as tie
 

@@ -1,24 +1,8 @@
 -- The loop keeps: all rows are sound exactly if those left are. What is known of a turn serves in the place of the rows.
+use Rattle.arbiter.specs.Prelude.{_&&_, _+_, _-_, _<_, Bool, Bounds, List, Row, Standing, Stands, ahead, all, all-drop, ap₂, arith, blocked, drop, drop-of-length-le, fun-ext, getD, holds, idle, jobs, length, meets, needs, not-false, not-true, refl, sym, ℕ, _∙_, _≡_, _≤_}
 use Rattle.arbiter.proofs.Arrays.{arrays}
-use Prim.Native.Nat.{ℕ, _+_, _-_, _<_, _≤_}
-use mathlib.Core.Bool.{Bool, _&&_}
-use mathlib.Core.List.{List}
-use mathlib.Core.Path.{_≡_, refl, sym, ap₂, fun-ext, _∙_}
-use borrow.Author.Tests.{not-true, not-false}
-use native.Mathlib.Omega.{arith}
-use lib.ListN.{drop, drop-of-length-le, getD, length}
-use Rattle.laws.specs.Lists.{all, holds}
-use Rattle.laws.specs.ListLaws.{all-drop}
-use Rattle.laws.specs.Sets.{meets}
-use Rattle.event.specs.Limits.{jobs}
-use Rattle.rows.specs.Order.{ahead, blocked, idle}
-use Rattle.rows.specs.Stand.{Stands}
-use Rattle.rows.specs.declared.row.Row.{Row}
-use Rattle.rows.specs.declared.stand.Standing.{Standing}
 use Rattle.arbiter.specs.Sound.{soundRow}
 use Rattle.arbiter.specs.ByStanding.{rowBy}
-use Rattle.arbiter.specs.declared.sound.Bounds.{Bounds}
-use borrow.Author.Needs.{needs}
 use Rattle.arbiter.proofs.sound.rows_sound.Statement.{statement}
 use Rattle.arbiter.proofs.sound.rows_sound.Tie as tie
 

@@ -1,9 +1,7 @@
 -- The cases of a job that acts, then those of the set.
-use mathlib.Core.Path.{refl}
-use Rattle.laws.specs.CaseLaws.{outcome-back, outcome-front}
+use Rattle.arbiter.specs.Prelude.{needs, outcome-back, outcome-front, refl}
 use Rattle.arbiter.proofs.Verdicts.{judged}
 use Rattle.arbiter.specs.Verdicts.{actCases, setCases}
-use borrow.Author.Needs.{needs}
 use Rattle.arbiter.proofs.verdict.act_on_verdict.Statement.{statement}
 use Rattle.arbiter.proofs.verdict.act_on_verdict.Tie as tie
 

@@ -1,14 +1,5 @@
 -- The tests are the cases, in their order; the token is read off what is known of the turn.
-use Prim.Native.Nat.{ℕ}
-use mathlib.Core.Bool.{not}
-use mathlib.Core.Path.{_≡_, sym, ap, _∙_}
-use borrow.Author.Tests.{le-ltb, lt-ltb}
-use lib.Dec.{ltb}
-use Rattle.laws.specs.CaseLaws.{outcome-is}
-use Rattle.laws.specs.Chains.{none, past, this}
-use Rattle.rows.specs.Line.{rowOf}
-use Rattle.rows.specs.Order.{token}
-use borrow.Author.Needs.{needs}
+use Rattle.arbiter.specs.Prelude.{ap, le-ltb, lt-ltb, ltb, needs, none, not, outcome-is, past, rowOf, sym, this, token, ℕ, _∙_, _≡_}
 use Rattle.arbiter.proofs.verdict.actor_verdict.Statement.{statement}
 use Rattle.arbiter.proofs.verdict.actor_verdict.Tie as tie
 

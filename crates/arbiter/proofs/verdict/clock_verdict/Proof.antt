@@ -1,10 +1,5 @@
 -- The first test is case 3; what passes it is judged by the clock.
-use mathlib.Core.Bool.{not}
-use mathlib.Core.Path.{sym, ap, _∙_}
-use Rattle.event.specs.Clock.{forward}
-use Rattle.laws.specs.CaseLaws.{outcome-is, outcome-past}
-use Rattle.laws.specs.Chains.{this}
-use borrow.Author.Needs.{needs}
+use Rattle.arbiter.specs.Prelude.{ap, forward, needs, not, outcome-is, outcome-past, sym, this, _∙_}
 use Rattle.arbiter.proofs.verdict.clock_verdict.Statement.{statement}
 use Rattle.arbiter.proofs.verdict.clock_verdict.Tie as tie
 

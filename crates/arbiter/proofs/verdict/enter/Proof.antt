@@ -1,11 +1,5 @@
 -- The tests are cases 3 and 4; what passes them is judged by the clock.
-use mathlib.Core.Bool.{not}
-use mathlib.Core.Path.{sym, ap, _∙_}
-use borrow.Author.Tests.{le-leb, lt-leb}
-use Rattle.event.specs.Clock.{forward}
-use Rattle.laws.specs.CaseLaws.{outcome-is, outcome-past}
-use Rattle.laws.specs.Chains.{past, this}
-use borrow.Author.Needs.{needs}
+use Rattle.arbiter.specs.Prelude.{ap, forward, le-leb, lt-leb, needs, not, outcome-is, outcome-past, past, sym, this, _∙_}
 use Rattle.arbiter.proofs.verdict.enter.Statement.{statement}
 use Rattle.arbiter.proofs.verdict.enter.Tie as tie
 

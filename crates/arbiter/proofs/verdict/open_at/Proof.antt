@@ -1,10 +1,7 @@
 -- Case 7, then the cases of the set, then that of the turn.
-use mathlib.Core.Path.{refl, sym, _∙_}
-use Rattle.laws.specs.CaseLaws.{outcome-back, outcome-front, outcome-is, outcome-past}
-use Rattle.laws.specs.Chains.{this}
+use Rattle.arbiter.specs.Prelude.{needs, outcome-back, outcome-front, outcome-is, outcome-past, refl, sym, this, _∙_}
 use Rattle.arbiter.proofs.Verdicts.{judged}
 use Rattle.arbiter.specs.Verdicts.{setCases, turnCases}
-use borrow.Author.Needs.{needs}
 use Rattle.arbiter.proofs.verdict.open_at.Statement.{statement}
 use Rattle.arbiter.proofs.verdict.open_at.Tie as tie
 

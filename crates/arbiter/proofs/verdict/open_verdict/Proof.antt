@@ -1,10 +1,7 @@
 -- The cases of the entry, then those of the opening.
-use mathlib.Core.Path.{refl}
-use Rattle.laws.specs.Cases.{case}
-use Rattle.laws.specs.CaseLaws.{outcome-back, outcome-front}
+use Rattle.arbiter.specs.Prelude.{case, needs, outcome-back, outcome-front, refl}
 use Rattle.arbiter.proofs.Verdicts.{has-row, judged}
 use Rattle.arbiter.specs.Verdicts.{entryCases, openCases}
-use borrow.Author.Needs.{needs}
 use Rattle.arbiter.proofs.verdict.open_verdict.Statement.{statement}
 use Rattle.arbiter.proofs.verdict.open_verdict.Tie as tie
 

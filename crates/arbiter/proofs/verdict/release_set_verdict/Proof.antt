@@ -1,9 +1,5 @@
 -- The test is the case.
-use mathlib.Core.Bool.{not}
-use mathlib.Core.Path.{sym, ap, _∙_}
-use Rattle.laws.specs.Chains.{none, past, this}
-use Rattle.laws.specs.CaseLaws.{outcome-is}
-use borrow.Author.Needs.{needs}
+use Rattle.arbiter.specs.Prelude.{ap, needs, none, not, outcome-is, past, sym, this, _∙_}
 use Rattle.arbiter.proofs.verdict.release_set_verdict.Statement.{statement}
 use Rattle.arbiter.proofs.verdict.release_set_verdict.Tie as tie
 

@@ -1,13 +1,7 @@
 -- The cases that a release shares with an ask, then that of its members.
-use mathlib.Core.Path.{refl}
-use Rattle.laws.specs.Cases.{case}
-use Rattle.laws.specs.CaseLaws.{outcome-back, outcome-front}
-use Rattle.rows.specs.Line.{rowOf}
-use Rattle.event.specs.Limits.{jobs}
+use Rattle.arbiter.specs.Prelude.{_<_, case, jobs, needs, outcome-back, outcome-front, refl, rowOf}
 use Rattle.arbiter.proofs.Verdicts.{has-row, judged}
 use Rattle.arbiter.specs.Verdicts.{actOnCases, releaseCases}
-use Prim.Native.Nat.{_<_}
-use borrow.Author.Needs.{needs}
 use Rattle.arbiter.proofs.verdict.release_verdict.Statement.{statement}
 use Rattle.arbiter.proofs.verdict.release_verdict.Tie as tie
 

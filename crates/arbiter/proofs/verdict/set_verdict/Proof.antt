@@ -1,10 +1,5 @@
 -- The tests are the cases, in their order.
-use mathlib.Core.Bool.{not}
-use mathlib.Core.Path.{sym, ap, _∙_}
-use borrow.Author.Tests.{eq-eqb, ne-eqb}
-use Rattle.laws.specs.CaseLaws.{outcome-is}
-use Rattle.laws.specs.Chains.{none, past, this}
-use borrow.Author.Needs.{needs}
+use Rattle.arbiter.specs.Prelude.{ap, eq-eqb, ne-eqb, needs, none, not, outcome-is, past, sym, this, _∙_}
 use Rattle.arbiter.proofs.verdict.set_verdict.Statement.{statement}
 use Rattle.arbiter.proofs.verdict.set_verdict.Tie as tie
 

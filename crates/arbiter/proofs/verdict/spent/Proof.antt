@@ -1,12 +1,5 @@
 -- A turn that is neither lower nor higher is equal.
-use Prim.Native.Nat.{ℕ, _≤_}
-use mathlib.Core.Bool.{Bool, true, false, not}
-use mathlib.Core.Path.{_≡_, refl, sym, ap, _∙_}
-use borrow.Author.Tests.{eq-eqb, ltb-false, ltb-true, ne-eqb}
-use native.Mathlib.Omega.{arith}
-use lib.Dec.{eqb, ltb}
-use borrow.Author.Needs.{needs}
-use Rattle.event.specs.Limits.{highest}
+use Rattle.arbiter.specs.Prelude.{Bool, ap, arith, eq-eqb, eqb, false, highest, ltb, ltb-false, ltb-true, ne-eqb, needs, not, refl, sym, true, ℕ, _∙_, _≡_, _≤_}
 use Rattle.arbiter.proofs.verdict.spent.Statement.{statement}
 use Rattle.arbiter.proofs.verdict.spent.Tie as tie
 

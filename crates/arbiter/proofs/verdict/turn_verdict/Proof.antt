@@ -1,8 +1,5 @@
 -- The test is the case.
-use mathlib.Core.Path.{sym, _∙_}
-use Rattle.laws.specs.Chains.{none, past, this}
-use Rattle.laws.specs.CaseLaws.{outcome-is}
-use borrow.Author.Needs.{needs}
+use Rattle.arbiter.specs.Prelude.{needs, none, outcome-is, past, sym, this, _∙_}
 use Rattle.arbiter.proofs.verdict.turn_verdict.Statement.{statement}
 use Rattle.arbiter.proofs.verdict.turn_verdict.Tie as tie
 

@@ -1,10 +1,6 @@
 -- The two tests are the two cases, in their order; what passes both is the sum.
-use Prim.Native.Nat.{_+_, _-_}
-use borrow.Author.Needs.{needs}
-use borrow.Author.Tests.{lt-ltb, le-ltb, le-leb, lt-leb}
-use native.Mathlib.Omega.{arith}
-use Rattle.laws.specs.CaseLaws.{outcome-is}
-use Rattle.laws.specs.Chains.{none, this, past}
+use Rattle.event.specs.Prelude.{_+_, arith, le-leb, le-ltb, lt-leb, lt-ltb, needs, outcome-is, past, this}
+use Rattle.laws.specs.Chains.{none}
 use Rattle.event.specs.Clock.{difference, forward}
 use Rattle.event.specs.Limits.{highest}
 use Rattle.event.proofs.clock.forward.Statement.{statement}

@@ -1,5 +1,5 @@
 -- Each arm returns its variant's number: the arm's test tells which variant came.
-use borrow.Author.Needs.{needs}
+use Rattle.event.specs.Prelude.{needs}
 use Rattle.event.proofs.refusal.number.Statement.{statement}
 use Rattle.event.proofs.refusal.number.Tie as tie
 

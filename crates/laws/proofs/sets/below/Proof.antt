@@ -1,8 +1,5 @@
 -- `laws::sets::below` meets its contract: from 64 on every set is below `r`, and before that the bits from `r` on are tested.
-use mathlib.Core.Path.{sym, _∙_}
-use borrow.Author.Needs.{needs}
-use borrow.Author.Tests.{le-leb}
-use native.Mathlib.Omega.{arith}
+use Rattle.laws.specs.Prelude.{arith, le-leb, needs, sym, _∙_}
 use Rattle.laws.proofs.Ranges.{below-wide}
 use Rattle.laws.specs.SetLaws.{below-shift}
 use Rattle.laws.proofs.sets.below.Statement.{statement}

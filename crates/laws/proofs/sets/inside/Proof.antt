@@ -1,5 +1,5 @@
 -- `laws::sets::inside` meets its contract: the code computes the definition.
-use mathlib.Core.Path.{refl}
+use Rattle.laws.specs.Prelude.{refl}
 use Rattle.laws.specs.Sets.{meet, inside}
 use Rattle.laws.proofs.sets.inside.Statement.{statement}
 use Rattle.laws.proofs.sets.inside.Tie as tie

@@ -1,5 +1,5 @@
 -- `laws::sets::meets` meets its contract: the code computes the definition.
-use mathlib.Core.Path.{refl}
+use Rattle.laws.specs.Prelude.{refl}
 use Rattle.laws.specs.Sets.{meet, meets}
 use Rattle.laws.proofs.sets.meets.Statement.{statement}
 use Rattle.laws.proofs.sets.meets.Tie as tie

@@ -1,5 +1,5 @@
 -- `laws::sets::union` meets its contract: the code computes the definition.
-use mathlib.Core.Path.{refl}
+use Rattle.laws.specs.Prelude.{refl}
 use Rattle.laws.specs.Sets.{union}
 use Rattle.laws.proofs.sets.union.Statement.{statement}
 use Rattle.laws.proofs.sets.union.Tie as tie

@@ -1,5 +1,5 @@
 -- `laws::sets::without` meets its contract: the code computes the definition, and what it takes away is never more than `s`.
-use mathlib.Core.Path.{refl}
+use Rattle.laws.specs.Prelude.{refl}
 use Rattle.laws.specs.Sets.{meet, without}
 use Rattle.laws.proofs.Ranges.{meet-le}
 use Rattle.laws.proofs.sets.without.Statement.{statement}

@@ -1,6 +1,6 @@
 -- The completion's own promise, in numbers; the list is as it left it.
+use Rattle.norakkeun.specs.Prelude.{needs}
 use Rattle.norakkeun.proofs.Numbered.{numbered}
-use borrow.Author.Needs.{needs}
 use Rattle.norakkeun.proofs.calls.norakkeun_complete.Statement.{statement}
 use Rattle.norakkeun.proofs.calls.norakkeun_complete.Tie as tie
 

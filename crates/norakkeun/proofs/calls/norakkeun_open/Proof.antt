@@ -1,6 +1,6 @@
 -- The event's own promise, in numbers.
+use Rattle.norakkeun.specs.Prelude.{needs}
 use Rattle.norakkeun.proofs.Numbered.{numbered}
-use borrow.Author.Needs.{needs}
 use Rattle.norakkeun.proofs.calls.norakkeun_open.Statement.{statement}
 use Rattle.norakkeun.proofs.calls.norakkeun_open.Tie as tie
 

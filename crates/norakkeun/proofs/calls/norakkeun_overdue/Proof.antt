@@ -1,6 +1,5 @@
 -- The question's own promise, in numbers; the list is as it left it.
-use mathlib.Core.Path.{_∙_}
-use borrow.Author.Needs.{needs}
+use Rattle.norakkeun.specs.Prelude.{needs, _∙_}
 use Rattle.norakkeun.proofs.calls.norakkeun_overdue.Statement.{statement}
 use Rattle.norakkeun.proofs.calls.norakkeun_overdue.Tie as tie
 

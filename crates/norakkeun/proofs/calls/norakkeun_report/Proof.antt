@@ -1,6 +1,5 @@
 -- The report's own promise, in numbers.
-use mathlib.Core.Path.{_∙_}
-use borrow.Author.Needs.{needs}
+use Rattle.norakkeun.specs.Prelude.{needs, _∙_}
 use Rattle.norakkeun.proofs.calls.norakkeun_report.Statement.{statement}
 use Rattle.norakkeun.proofs.calls.norakkeun_report.Tie as tie
 

@@ -1,6 +1,5 @@
 -- Each case of the answer is its number.
-use mathlib.Core.Path.{_∙_}
-use borrow.Author.Needs.{needs}
+use Rattle.norakkeun.specs.Prelude.{needs, _∙_}
 use Rattle.norakkeun.proofs.told.event_in_numbers.Statement.{statement}
 use Rattle.norakkeun.proofs.told.event_in_numbers.Tie as tie
 

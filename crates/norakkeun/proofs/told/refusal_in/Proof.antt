@@ -1,5 +1,5 @@
 -- A refusal is its number; a record that was written is 0.
-use borrow.Author.Needs.{needs}
+use Rattle.norakkeun.specs.Prelude.{needs}
 use Rattle.norakkeun.proofs.told.refusal_in.Statement.{statement}
 use Rattle.norakkeun.proofs.told.refusal_in.Tie as tie
 

@@ -1,5 +1,5 @@
 -- A refusal is its number, a report itself.
-use borrow.Author.Needs.{needs}
+use Rattle.norakkeun.specs.Prelude.{needs}
 use Rattle.norakkeun.proofs.told.report_in_numbers.Statement.{statement}
 use Rattle.norakkeun.proofs.told.report_in_numbers.Tie as tie
 

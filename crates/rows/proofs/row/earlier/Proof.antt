@@ -1,5 +1,5 @@
 -- The test is that of the contract.
-use mathlib.Core.Path.{refl}
+use Rattle.rows.specs.Prelude.{refl}
 use Rattle.rows.proofs.row.earlier.Statement.{statement}
 use Rattle.rows.proofs.row.earlier.Tie as tie
 

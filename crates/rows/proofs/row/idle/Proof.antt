@@ -1,5 +1,5 @@
 -- All five numbers are 0.
-use mathlib.Core.Path.{refl}
+use Rattle.rows.specs.Prelude.{refl}
 use Rattle.rows.proofs.row.idle.Statement.{statement}
 use Rattle.rows.proofs.row.idle.Tie as tie
 

@@ -1,5 +1,5 @@
 -- The row is live if turn 0 stands before its own.
-use borrow.Author.Needs.{needs}
+use Rattle.rows.specs.Prelude.{needs}
 use Rattle.rows.proofs.row.live.Statement.{statement}
 use Rattle.rows.proofs.row.live.Tie as tie
 

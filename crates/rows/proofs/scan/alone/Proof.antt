@@ -1,7 +1,5 @@
 -- `rows::scan::alone` meets its contract: both tests are those of the definition.
-use mathlib.Core.Path.{sym, _∙_}
-use borrow.Author.Needs.{needs}
-use borrow.Author.Tests.{not-false, not-true}
+use Rattle.rows.specs.Prelude.{needs, not-false, not-true, sym, _∙_}
 use Rattle.rows.proofs.scan.alone.Statement.{statement}
 use Rattle.rows.proofs.scan.alone.Tie as tie
 

@@ -1,6 +1,5 @@
 -- `rows::scan::before` meets its contract: both tests are those of the definition.
-use mathlib.Core.Path.{sym, _∙_}
-use borrow.Author.Needs.{needs}
+use Rattle.rows.specs.Prelude.{needs, sym, _∙_}
 use Rattle.rows.proofs.scan.before.Statement.{statement}
 use Rattle.rows.proofs.scan.before.Tie as tie
 

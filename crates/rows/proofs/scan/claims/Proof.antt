@@ -1,6 +1,5 @@
 -- `rows::scan::claims` meets its contract: both tests are those of the definition.
-use mathlib.Core.Path.{sym, _∙_}
-use borrow.Author.Needs.{needs}
+use Rattle.rows.specs.Prelude.{needs, sym, _∙_}
 use Rattle.rows.proofs.scan.claims.Statement.{statement}
 use Rattle.rows.proofs.scan.claims.Tie as tie
 

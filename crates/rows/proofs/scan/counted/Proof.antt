@@ -1,7 +1,5 @@
 -- `rows::scan::counted` meets its contract, by the two cases.
-use mathlib.Core.Path.{sym}
-use native.Mathlib.Nat.{add-zero}
-use borrow.Author.Needs.{needs}
+use Rattle.rows.specs.Prelude.{add-zero, needs, sym}
 use Rattle.rows.proofs.scan.counted.Statement.{statement}
 use Rattle.rows.proofs.scan.counted.Tie as tie
 

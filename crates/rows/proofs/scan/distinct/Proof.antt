@@ -1,17 +1,7 @@
 -- `rows::scan::distinct` meets its contract. The loop's invariant: the rows from `i` on decide.
-use Prim.Native.Nat.{ℕ, _+_, _≤_, _<_, _-_}
-use mathlib.Core.Bool.{Bool, _&&_}
-use mathlib.Core.List.{List}
-use mathlib.Core.Path.{_≡_, refl, sym, _∙_}
-use borrow.Author.Needs.{needs}
-use borrow.Author.Tests.{not-false, not-true}
-use lib.ListN.{drop, drop-of-length-le, length}
-use Rattle.laws.specs.Lists.{all}
-use Rattle.laws.specs.ListLaws.{all-drop}
+use Rattle.rows.specs.Prelude.{_&&_, _+_, _-_, _<_, Bool, List, Row, all, all-drop, drop, drop-of-length-le, jobs, length, needs, not-false, not-true, refl, sym, ℕ, _∙_, _≡_, _≤_}
 use Rattle.rows.specs.Line.{rowOf}
-use Rattle.event.specs.Limits.{jobs}
 use Rattle.rows.specs.Order.{alone, distinct, idle}
-use Rattle.rows.specs.declared.row.Row.{Row}
 use Rattle.rows.proofs.scan.distinct.Statement.{statement}
 use Rattle.rows.proofs.scan.distinct.Tie as tie
 

@@ -1,9 +1,5 @@
 -- `rows::scan::in_way` meets its contract. The loop's invariant: `n` rows before place `i` are in the way.
-use Prim.Native.Nat.{_≤_, _-_}
-use native.Mathlib.Omega.{arith}
-use borrow.Author.Needs.{needs}
-use Rattle.laws.specs.ListLaws.{Passed, passed-all, passed-le, passed-more, passed-none}
-use Rattle.event.specs.Limits.{jobs}
+use Rattle.rows.specs.Prelude.{_-_, Passed, arith, jobs, needs, passed-all, passed-le, passed-more, passed-none, _≤_}
 use Rattle.rows.specs.Order.{claims, idle, inWay}
 use Rattle.rows.proofs.scan.in_way.Statement.{statement}
 use Rattle.rows.proofs.scan.in_way.Tie as tie

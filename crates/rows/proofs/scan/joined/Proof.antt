@@ -1,7 +1,5 @@
 -- `rows::scan::joined` meets its contract, by the two cases.
-use mathlib.Core.Path.{sym, _∙_}
-use borrow.Author.Needs.{needs}
-use borrow.Author.Tests.{not-true, not-false}
+use Rattle.rows.specs.Prelude.{needs, not-false, not-true, sym, _∙_}
 use Rattle.rows.proofs.scan.joined.Statement.{statement}
 use Rattle.rows.proofs.scan.joined.Tie as tie
 

@@ -1,9 +1,5 @@
 -- The loop's invariant: `n` rows before place `i` are live.
-use Prim.Native.Nat.{_≤_, _-_}
-use native.Mathlib.Omega.{arith}
-use borrow.Author.Needs.{needs}
-use Rattle.laws.specs.ListLaws.{Passed, passed-all, passed-le, passed-more, passed-none}
-use Rattle.event.specs.Limits.{jobs}
+use Rattle.rows.specs.Prelude.{_-_, Passed, arith, jobs, needs, passed-all, passed-le, passed-more, passed-none, _≤_}
 use Rattle.rows.specs.Order.{idle, live}
 use Rattle.rows.proofs.scan.live_count.Statement.{statement}
 use Rattle.rows.proofs.scan.live_count.Tie as tie

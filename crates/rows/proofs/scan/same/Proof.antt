@@ -1,11 +1,5 @@
 -- `rows::scan::same` meets its contract: two turns are one where neither is the lower.
-use Prim.Native.Nat.{ℕ}
-use mathlib.Core.Bool.{Bool, true, false, not, _&&_}
-use mathlib.Core.Path.{_≡_, refl, sym, _∙_}
-use native.Mathlib.Omega.{arith}
-use borrow.Author.Needs.{needs}
-use borrow.Author.Tests.{eq-eqb, ltb-false, ltb-true, ne-eqb, not-false, not-true}
-use lib.Dec.{eqb, ltb}
+use Rattle.rows.specs.Prelude.{_&&_, Bool, arith, eq-eqb, eqb, false, ltb, ltb-false, ltb-true, ne-eqb, needs, not, not-false, not-true, refl, sym, true, ℕ, _∙_, _≡_}
 use Rattle.rows.proofs.scan.same.Statement.{statement}
 use Rattle.rows.proofs.scan.same.Tie as tie
 

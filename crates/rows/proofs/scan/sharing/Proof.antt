@@ -1,9 +1,5 @@
 -- `rows::scan::sharing` meets its contract. The loop's invariant: `n` rows before place `i` have the turn.
-use Prim.Native.Nat.{_≤_, _-_}
-use native.Mathlib.Omega.{arith}
-use borrow.Author.Needs.{needs}
-use Rattle.laws.specs.ListLaws.{Passed, passed-all, passed-le, passed-more, passed-none}
-use Rattle.event.specs.Limits.{jobs}
+use Rattle.rows.specs.Prelude.{_-_, Passed, arith, jobs, needs, passed-all, passed-le, passed-more, passed-none, _≤_}
 use Rattle.rows.specs.Order.{bears, idle}
 use Rattle.rows.proofs.scan.sharing.Statement.{statement}
 use Rattle.rows.proofs.scan.sharing.Tie as tie

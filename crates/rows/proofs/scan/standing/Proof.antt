@@ -1,10 +1,6 @@
 -- `rows::scan::standing` meets its contract. The loop's invariant: `s` is what the rows before place `i` tell.
-use Prim.Native.Nat.{_≤_, _-_}
-use native.Mathlib.Omega.{arith}
-use borrow.Author.Needs.{needs}
-use Rattle.laws.specs.ListLaws.{passed-le}
+use Rattle.rows.specs.Prelude.{_-_, arith, jobs, needs, passed-le, _≤_}
 use Rattle.rows.proofs.Seen.{Seen, all-seen, more-seen, none-seen}
-use Rattle.event.specs.Limits.{jobs}
 use Rattle.rows.specs.Order.{earlier}
 use Rattle.rows.proofs.scan.standing.Statement.{statement}
 use Rattle.rows.proofs.scan.standing.Tie as tie

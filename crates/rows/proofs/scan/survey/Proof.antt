@@ -1,16 +1,7 @@
 -- `rows::scan::survey` meets its contract. The loop's invariant: the standings before place `i` are those of their rows' turns.
-use Prim.Native.Nat.{ℕ, _≤_, _-_}
-use mathlib.Core.List.{List}
-use mathlib.Core.Path.{_≡_, refl}
-use native.Mathlib.Omega.{arith}
-use borrow.Author.Needs.{needs}
-use lib.ListN.{length}
-use Rattle.laws.specs.ListLaws.{Filled, filled-more}
+use Rattle.rows.specs.Prelude.{_-_, Filled, List, Row, Standing, arith, filled-more, jobs, length, needs, refl, ℕ, _≡_, _≤_}
 use Rattle.rows.specs.Line.{rowOf}
-use Rattle.event.specs.Limits.{jobs}
 use Rattle.rows.specs.Stand.{Stands, unknown}
-use Rattle.rows.specs.declared.row.Row.{Row}
-use Rattle.rows.specs.declared.stand.Standing.{Standing}
 use Rattle.rows.proofs.scan.survey.Statement.{statement}
 use Rattle.rows.proofs.scan.survey.Tie as tie
 

@@ -1,7 +1,5 @@
 -- `rows::settle::granted` meets its contract, by the two cases.
-use mathlib.Core.Path.{_≡_, sym, _∙_}
-use borrow.Author.Needs.{needs}
-use Rattle.laws.specs.Sets.{meets}
+use Rattle.rows.specs.Prelude.{meets, needs, sym, _∙_, _≡_}
 use Rattle.rows.proofs.settle.granted.Statement.{statement}
 use Rattle.rows.proofs.settle.granted.Tie as tie
 

@@ -1,6 +1,5 @@
 -- `rows::settle::rested` meets its contract, by the two cases.
-use mathlib.Core.Path.{sym, _∙_}
-use borrow.Author.Needs.{needs}
+use Rattle.rows.specs.Prelude.{needs, sym, _∙_}
 use Rattle.rows.proofs.settle.rested.Statement.{statement}
 use Rattle.rows.proofs.settle.rested.Tie as tie
 

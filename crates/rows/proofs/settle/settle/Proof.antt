@@ -1,5 +1,5 @@
 -- `rows::settle::settle` meets its contract: one step after the other.
-use borrow.Author.Needs.{needs}
+use Rattle.rows.specs.Prelude.{needs}
 use Rattle.rows.proofs.settle.settle.Statement.{statement}
 use Rattle.rows.proofs.settle.settle.Tie as tie
 

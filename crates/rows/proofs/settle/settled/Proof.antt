@@ -1,20 +1,11 @@
 -- `rows::settle::settled` meets its contract. The loop's invariant: the rows before place `i` are swept.
-use Prim.Native.Nat.{ℕ, _≤_, _-_}
-use mathlib.Core.List.{List}
-use mathlib.Core.Path.{_≡_, sym, _∙_}
-use native.Mathlib.Omega.{arith}
-use borrow.Author.Needs.{needs}
-use lib.ListN.{getD, length}
-use lib.Seq.{ext-getD}
-use Rattle.laws.specs.ListLaws.{Filled, filled-more}
+use Rattle.rows.specs.Prelude.{_-_, Filled, List, Row, arith, ext-getD, filled-more, getD, jobs, length, needs, sym, ℕ, _∙_, _≡_, _≤_}
 use Rattle.rows.specs.KnownLaws.{swept-by}
 use Rattle.rows.specs.Line.{rowOf}
-use Rattle.event.specs.Limits.{jobs}
 use Rattle.rows.specs.Order.{idle}
 use Rattle.rows.specs.Stand.{unknown}
 use Rattle.rows.specs.SweepLaws.{length-settled, row-settled}
 use Rattle.rows.specs.Sweep.{settled, sweptRow}
-use Rattle.rows.specs.declared.row.Row.{Row}
 use Rattle.rows.proofs.settle.settled.Statement.{statement}
 use Rattle.rows.proofs.settle.settled.Tie as tie
 

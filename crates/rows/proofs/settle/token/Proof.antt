@@ -1,5 +1,5 @@
 -- The test is that of the definition.
-use mathlib.Core.Path.{refl}
+use Rattle.rows.specs.Prelude.{refl}
 use Rattle.rows.proofs.settle.token.Statement.{statement}
 use Rattle.rows.proofs.settle.token.Tie as tie
 

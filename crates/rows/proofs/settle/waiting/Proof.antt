@@ -1,6 +1,5 @@
 -- `rows::settle::waiting` meets its contract: the tests are those of the definition.
-use mathlib.Core.Path.{sym, _∙_}
-use borrow.Author.Needs.{needs}
+use Rattle.rows.specs.Prelude.{needs, sym, _∙_}
 use Rattle.rows.proofs.settle.waiting.Statement.{statement}
 use Rattle.rows.proofs.settle.waiting.Tie as tie
 

@@ -1,10 +1,5 @@
 -- The loop keeps that what came is no longer than the piece.
-use Prim.Native.Nat.{_-_, _≤_}
-use mathlib.Core.Path.{_≡_, sym}
-use native.Mathlib.Omega.{arith}
-use lib.Seq.{length-take-le}
-use lib.ListN.{length}
-use borrow.Author.Needs.{needs}
+use Rattle.stream.specs.Prelude.{_-_, arith, length, length-take-le, needs, sym, _≡_, _≤_}
 use Rattle.stream.proofs.input.fill.Statement.{statement}
 use Rattle.stream.proofs.input.fill.Tie as tie
 

@@ -1,8 +1,5 @@
 -- The loop keeps the room's length, and that no failure is forgotten.
-use Prim.Native.Nat.{_-_, _≤_}
-use mathlib.Core.Path.{_≡_}
-use lib.ListN.{length}
-use borrow.Author.Needs.{needs}
+use Rattle.stream.specs.Prelude.{_-_, length, needs, _≡_, _≤_}
 use Rattle.stream.proofs.print.bytes.Statement.{statement}
 use Rattle.stream.proofs.print.bytes.Tie as tie
 

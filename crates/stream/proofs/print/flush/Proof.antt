@@ -1,8 +1,5 @@
 -- A part of the room up to its length is as long as its end says.
-use mathlib.Core.Path.{sym}
-use native.Mathlib.Omega.{arith}
-use lib.Seq.{length-take-le}
-use borrow.Author.Needs.{needs}
+use Rattle.stream.specs.Prelude.{arith, length-take-le, needs, sym}
 use Rattle.stream.proofs.print.flush.Statement.{statement}
 use Rattle.stream.proofs.print.flush.Tie as tie
 

@@ -1,6 +1,5 @@
 -- Each return gives at least the failures that there were.
-use native.Mathlib.Omega.{arith}
-use borrow.Author.Needs.{needs}
+use Rattle.stream.specs.Prelude.{arith, needs}
 use Rattle.stream.proofs.print.hand_over.Statement.{statement}
 use Rattle.stream.proofs.print.hand_over.Tie as tie
 

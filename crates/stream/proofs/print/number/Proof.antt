@@ -1,15 +1,5 @@
 -- A number has at most 20 digits, and what was written at the front of the array is its text.
-use Prim.Native.Nat.{ℕ}
-use mathlib.Core.List.{List}
-use mathlib.Core.Path.{_≡_, refl, sym}
-use native.Mathlib.Nat.{zero-add}
-use native.Mathlib.Omega.{arith}
-use lib.ListN.{length, take, drop}
-use lib.Seq.{length-take-le, take-at}
-use borrow.Author.Needs.{needs}
-use Rattle.laws.specs.Front.{Wrote, over}
-use Rattle.laws.specs.FrontLaws.{laid-front}
-use Rattle.decimal.specs.TextLaws.{length-text-u64}
+use Rattle.stream.specs.Prelude.{List, Wrote, arith, drop, laid-front, length, length-take-le, length-text-u64, needs, over, refl, sym, take, take-at, zero-add, ℕ, _≡_}
 use Rattle.stream.proofs.print.number.Statement.{statement}
 use Rattle.stream.proofs.print.number.Tie as tie
 

@@ -1,9 +1,5 @@
 -- Whether n bytes fit behind what waits is what the two tests find out.
-use Prim.Native.Nat.{_+_}
-use native.Mathlib.Omega.{arith}
-use lib.ListN.{length}
-use borrow.Author.Tests.{le-leb, lt-leb}
-use borrow.Author.Needs.{needs}
+use Rattle.stream.specs.Prelude.{_+_, arith, le-leb, length, lt-leb, needs}
 use Rattle.stream.proofs.print.ready.Statement.{statement}
 use Rattle.stream.proofs.print.ready.Tie as tie
 

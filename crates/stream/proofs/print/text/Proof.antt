@@ -1,8 +1,5 @@
 -- What is ready has the place that is promised, and from there on there is room.
-use mathlib.Core.Path.{refl}
-use native.Mathlib.Omega.{arith}
-use lib.ListN.{length}
-use borrow.Author.Needs.{needs}
+use Rattle.stream.specs.Prelude.{arith, length, needs, refl}
 use Rattle.stream.proofs.Places.{place-fits}
 use Rattle.stream.proofs.print.text.Statement.{statement}
 use Rattle.stream.proofs.print.text.Tie as tie

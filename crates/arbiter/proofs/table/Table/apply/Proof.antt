@@ -1,19 +1,8 @@
 -- Each arm is the method of that event; all but complete leave the lent list as it was.
-use mathlib.Core.List.{List, []}
-use mathlib.Core.Path.{_≡_, refl, sym, ap, _∙_}
-use Prim.Native.Nat.{ℕ}
-use lib.ListN.{length}
-use Rattle.event.specs.declared.events.Event.{Event}
-use Rattle.laws.specs.Cases.{Case, leaves, outcome}
-use Rattle.laws.specs.CaseLaws.{leaves-same}
-use Rattle.laws.specs.Front.{over}
-use Rattle.event.specs.Limits.{jobs}
+use Rattle.arbiter.specs.Prelude.{Case, Event, List, Next, Table, [], ap, jobs, leaves, leaves-same, length, needs, outcome, over, refl, sym, ℕ, _∙_, _≡_}
 use Rattle.arbiter.specs.Meaning.{accepted, answer, listed, next, said, wakes}
 use Rattle.arbiter.specs.Promises.{Answered, AnsweredInto}
 use Rattle.arbiter.specs.Refusals.{cases}
-use Rattle.arbiter.specs.declared.table.Next.{Next}
-use Rattle.arbiter.specs.declared.table.Table.{Table}
-use borrow.Author.Needs.{needs}
 use Rattle.arbiter.proofs.table.Table.apply.Statement.{statement}
 use Rattle.arbiter.proofs.table.Table.apply.Tie as tie
 

@@ -1,16 +1,9 @@
 -- A refused verdict leaves the table; an accepted one does what the event means.
-use Prim.Native.Nat.{ℕ}
-use mathlib.Core.Path.{refl}
-use Rattle.event.specs.declared.events.Event.the-variants.{Ask}
-use Rattle.laws.specs.Cases.{case}
-use Rattle.rows.specs.Line.{rowOf}
-use Rattle.event.specs.Limits.{jobs}
+use Rattle.arbiter.specs.Prelude.{Ask, case, jobs, needs, refl, rowOf, set, ℕ}
 use Rattle.arbiter.proofs.Answering.{accepted-answers, refused-answers}
 use Rattle.arbiter.proofs.Verdicts.{has-row, judged}
 use Rattle.arbiter.specs.Meaning.{askedRow, moved, timeAt}
 use Rattle.arbiter.specs.Refusals.{cases}
-use lib.ListN.{set}
-use borrow.Author.Needs.{needs}
 use Rattle.arbiter.proofs.table.Table.ask.Statement.{statement}
 use Rattle.arbiter.proofs.table.Table.ask.Tie as tie
 

@@ -1,12 +1,8 @@
 -- A refused verdict leaves the table; an accepted one does what the event means.
-use Prim.Native.Nat.{ℕ}
-use mathlib.Core.Path.{refl}
-use Rattle.event.specs.declared.events.Event.the-variants.{Beat}
-use Rattle.event.specs.Limits.{jobs}
+use Rattle.arbiter.specs.Prelude.{Beat, jobs, needs, refl, ℕ}
 use Rattle.arbiter.proofs.Verdicts.{judged}
 use Rattle.arbiter.proofs.Answering.{accepted-answers, refused-answers}
 use Rattle.arbiter.specs.Meaning.{moved, timeAt}
-use borrow.Author.Needs.{needs}
 use Rattle.arbiter.proofs.table.Table.beat.Statement.{statement}
 use Rattle.arbiter.proofs.table.Table.beat.Tie as tie
 

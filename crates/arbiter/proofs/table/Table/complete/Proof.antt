@@ -1,17 +1,10 @@
 -- A refused verdict leaves the table and the list; an accepted one does what the event means.
-use Prim.Native.Nat.{ℕ}
-use mathlib.Core.Path.{refl, _∙_}
-use borrow.Author.Tests.{le-ltb, lt-ltb}
-use Rattle.event.specs.declared.events.Event.the-variants.{Complete}
-use Rattle.laws.specs.Cases.{case}
-use Rattle.laws.specs.CaseLaws.{outcome-is, outcome-past}
-use Rattle.laws.specs.Chains.{this}
+use Rattle.arbiter.specs.Prelude.{Complete, case, le-ltb, lt-ltb, needs, outcome-is, outcome-past, refl, this, ℕ, _∙_}
 use Rattle.arbiter.proofs.Answering.{accepted-answers-into, refused-answers-into}
 use Rattle.arbiter.proofs.Verdicts.{has-row, judged}
 use Rattle.arbiter.specs.Effects.{completedRows}
 use Rattle.arbiter.specs.Meaning.{moved, timeAt}
 use Rattle.arbiter.specs.Verdicts.{actCases}
-use borrow.Author.Needs.{needs}
 use Rattle.arbiter.proofs.table.Table.complete.Statement.{statement}
 use Rattle.arbiter.proofs.table.Table.complete.Tie as tie
 

@@ -1,15 +1,9 @@
 -- A refused verdict leaves the table; an accepted one does what the event means.
-use Prim.Native.Nat.{ℕ, _+_}
-use mathlib.Core.Path.{refl}
-use Rattle.event.specs.declared.events.Event.the-variants.{Open}
-use Rattle.laws.specs.Cases.{case}
-use Rattle.event.specs.Limits.{jobs}
+use Rattle.arbiter.specs.Prelude.{_+_, Open, case, jobs, needs, refl, set, ℕ}
 use Rattle.arbiter.proofs.Answering.{accepted-answers, refused-answers}
 use Rattle.arbiter.proofs.Verdicts.{has-row, judged, last-in-range}
 use Rattle.arbiter.specs.Meaning.{moved, openedRow, timeAt}
 use Rattle.arbiter.specs.Refusals.{cases}
-use lib.ListN.{set}
-use borrow.Author.Needs.{needs}
 use Rattle.arbiter.proofs.table.Table.open.Statement.{statement}
 use Rattle.arbiter.proofs.table.Table.open.Tie as tie
 

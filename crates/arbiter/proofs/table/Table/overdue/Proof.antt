@@ -1,23 +1,9 @@
 -- A refused verdict leaves the list; an accepted one lists the jobs that are late.
-use Prim.Native.Nat.{ℕ}
-use mathlib.Core.List.{List}
-use mathlib.Core.Path.{_≡_, sym, ap, _∙_}
-use borrow.Author.Tests.{le-ltb, lt-ltb}
-use lib.ListN.{length}
-use Rattle.event.specs.Refusals.{numberOf}
-use Rattle.event.specs.declared.refusal.Refusal.{Refusal}
-use Rattle.laws.specs.CaseLaws.{acceptance-tells, outcome-is, outcome-past, refusal-tells}
-use Rattle.laws.specs.Chains.{this}
-use Rattle.laws.specs.Cases.{fine, leaves, outcome, refused}
-use Rattle.laws.specs.Front.{over}
-use Rattle.rows.specs.LineInCode.{Listed}
+use Rattle.arbiter.specs.Prelude.{Count, List, Listed, No, Refusal, Table, acceptance-tells, ap, fine, le-ltb, leaves, length, lt-ltb, needs, numberOf, outcome, outcome-is, outcome-past, over, refusal-tells, refused, sym, this, ℕ, _∙_, _≡_}
 use Rattle.arbiter.proofs.Verdicts.{judged}
 use Rattle.arbiter.specs.Meaning.{late, lateAt, overdue, overdueList, timeAt}
 use Rattle.arbiter.specs.Promises.{ToldLate}
 use Rattle.arbiter.specs.Refusals.{overdueCases}
-use Rattle.arbiter.specs.declared.table.Late.the-variants.{Count, No}
-use Rattle.arbiter.specs.declared.table.Table.{Table}
-use borrow.Author.Needs.{needs}
 use Rattle.arbiter.proofs.table.Table.overdue.Statement.{statement}
 use Rattle.arbiter.proofs.table.Table.overdue.Tie as tie
 

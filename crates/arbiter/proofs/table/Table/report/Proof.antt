@@ -1,12 +1,6 @@
 -- The three tests are the three cases, in their order.
-use mathlib.Core.Bool.{not}
-use mathlib.Core.Path.{sym, ap, _∙_}
-use borrow.Author.Tests.{le-leb, lt-leb}
-use Rattle.laws.specs.Cases.{fine}
-use Rattle.laws.specs.Chains.{none, past, this}
-use Rattle.laws.specs.CaseLaws.{outcome-is}
+use Rattle.arbiter.specs.Prelude.{ap, fine, le-leb, lt-leb, needs, none, not, outcome-is, past, sym, this, _∙_}
 use Rattle.arbiter.specs.Meaning.{report}
-use borrow.Author.Needs.{needs}
 use Rattle.arbiter.proofs.table.Table.report.Statement.{statement}
 use Rattle.arbiter.proofs.table.Table.report.Tie as tie
 

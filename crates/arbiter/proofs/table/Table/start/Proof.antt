@@ -1,13 +1,6 @@
 -- The one test is the one case; all rows are the idle row.
-use mathlib.Core.Bool.{not}
-use mathlib.Core.Path.{sym, ap, _∙_}
-use lib.ListN.{replicate}
-use Rattle.laws.specs.CaseLaws.{leaves-is, outcome-is}
-use Rattle.laws.specs.Chains.{none, past, this}
-use Rattle.event.specs.Limits.{jobs}
-use Rattle.rows.specs.declared.row.Row.{Row}
+use Rattle.arbiter.specs.Prelude.{Row, ap, jobs, leaves-is, needs, none, not, outcome-is, past, replicate, sym, this, _∙_}
 use Rattle.arbiter.specs.Meaning.{startAnswer, startTable}
-use borrow.Author.Needs.{needs}
 use Rattle.arbiter.proofs.table.Table.start.Statement.{statement}
 use Rattle.arbiter.proofs.table.Table.start.Tie as tie
 
