@@ -3,12 +3,6 @@ use Rattle.rows.specs.Prelude.{needs, not-false, not-true, sym, _∙_}
 use Rattle.rows.proofs.scan.alone.Statement.{statement}
 use Rattle.rows.proofs.scan.alone.Tie as tie
 
-live-requires : tie.Need-live-requires
-live-requires c κs = search needs
-
-sharing-requires : tie.Need-sharing-requires
-sharing-requires c κs = search needs
-
 returns : tie.Need-returns
 returns c = rw (sym (c .before .live .ensures) ∙ not-true (c .before .live .result) (c .if1 .taken)) (c .if1 .taken)
 
@@ -20,4 +14,4 @@ returns-2 c =
     )
 
 pub alone-spec : {M : Type 1} → statement M
-alone-spec = tie.close (tie.spec live-requires sharing-requires returns returns-2)
+alone-spec = tie.close (tie.spec (λ c κs. search needs) (λ c κs. search needs) returns returns-2)

@@ -3,12 +3,6 @@ use Rattle.rows.specs.Prelude.{needs, sym, _∙_}
 use Rattle.rows.proofs.scan.before.Statement.{statement}
 use Rattle.rows.proofs.scan.before.Tie as tie
 
-live-requires : tie.Need-live-requires
-live-requires c κs = search needs
-
-earlier-requires : tie.Need-earlier-requires
-earlier-requires c κs = search needs
-
 returns : tie.Need-returns
 returns c = rw (sym (c .before .before .live .ensures) ∙ c .before .if1 .taken) (c .earlier .ensures)
 
@@ -16,4 +10,4 @@ returns-2 : tie.Need-returns-2
 returns-2 c = rw (sym (c .before .live .ensures) ∙ c .if1 .left) (c .if1 .left)
 
 pub before-spec : {M : Type 1} → statement M
-before-spec = tie.close (tie.spec live-requires earlier-requires returns returns-2)
+before-spec = tie.close (tie.spec (λ c κs. search needs) (λ c κs. search needs) returns returns-2)

@@ -3,12 +3,6 @@ use Rattle.rows.specs.Prelude.{needs, sym, _∙_}
 use Rattle.rows.proofs.scan.claims.Statement.{statement}
 use Rattle.rows.proofs.scan.claims.Tie as tie
 
-before-requires : tie.Need-before-requires
-before-requires c κs = search needs
-
-meets-requires : tie.Need-meets-requires
-meets-requires c κs = search needs
-
 returns : tie.Need-returns
 returns c = rw (sym (c .before .before .before2 .ensures) ∙ c .before .if1 .taken) (c .meets .ensures)
 
@@ -16,4 +10,4 @@ returns-2 : tie.Need-returns-2
 returns-2 c = rw (sym (c .before .before2 .ensures) ∙ c .if1 .left) (c .if1 .left)
 
 pub claims-spec : {M : Type 1} → statement M
-claims-spec = tie.close (tie.spec before-requires meets-requires returns returns-2)
+claims-spec = tie.close (tie.spec (λ c κs. search needs) (λ c κs. search needs) returns returns-2)

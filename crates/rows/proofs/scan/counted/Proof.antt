@@ -3,9 +3,6 @@ use Rattle.rows.specs.Prelude.{add-zero, needs, sym}
 use Rattle.rows.proofs.scan.counted.Statement.{statement}
 use Rattle.rows.proofs.scan.counted.Tie as tie
 
-add-result : tie.Need-add-result
-add-result c = search needs
-
 returns : tie.Need-returns
 returns c = rw (c .if1 .taken)
 
@@ -13,4 +10,4 @@ returns-2 : tie.Need-returns-2
 returns-2 c = rw (c .if1 .left) (sym (add-zero (c .before .args .n)))
 
 pub counted-spec : {M : Type 1} → statement M
-counted-spec = tie.close (tie.spec add-result returns returns-2)
+counted-spec = tie.close (tie.spec (λ c. search needs) returns returns-2)

@@ -3,17 +3,8 @@ use Rattle.rows.specs.Prelude.{needs, not-false, not-true, sym, _∙_}
 use Rattle.rows.proofs.scan.joined.Statement.{statement}
 use Rattle.rows.proofs.scan.joined.Tie as tie
 
-before-requires : tie.Need-before-requires
-before-requires c κs = search needs
-
 returns : tie.Need-returns
 returns c = rw (sym (c .before .before2 .ensures) ∙ not-true (c .before .before2 .result) (c .if1 .taken))
-
-add-t6 : tie.Need-add-t6
-add-t6 c = search needs
-
-union-requires : tie.Need-union-requires
-union-requires c κs = search needs
 
 returns-2 : tie.Need-returns-2
 returns-2 c =
@@ -24,4 +15,4 @@ returns-2 c =
     )
 
 pub joined-spec : {M : Type 1} → statement M
-joined-spec = tie.close (tie.spec before-requires returns add-t6 union-requires returns-2)
+joined-spec = tie.close (tie.spec (λ c κs. search needs) returns (λ c. search needs) (λ c κs. search needs) returns-2)

@@ -12,12 +12,6 @@ neither-lower a b = go (ltb a b) (ltb b a) refl refl
     go false true p q = sym (ne-eqb a b (omega (arith, ltb-true b a q)))
     go false false p q = sym (eq-eqb a b (omega (arith, ltb-false a b p, ltb-false b a q)))
 
-earlier-requires : tie.Need-earlier-requires
-earlier-requires c κs = search needs
-
-earlier-requires-2 : tie.Need-earlier-requires-2
-earlier-requires-2 c κs = search needs
-
 returns : tie.Need-returns
 returns c =
     let a = c .before .before .before .args in
@@ -32,4 +26,4 @@ returns-2 c =
     c .if1 .left ∙ rw (sym (first .ensures) ∙ not-false (first .result) (c .if1 .left)) at (neither-lower (a .a .0) (a .b .0))
 
 pub same-spec : {M : Type 1} → statement M
-same-spec = tie.close (tie.spec earlier-requires earlier-requires-2 returns returns-2)
+same-spec = tie.close (tie.spec (λ c κs. search needs) (λ c κs. search needs) returns returns-2)

@@ -11,29 +11,14 @@ Inv-loop turn rows s₀ i₀ s i = (i ≤ jobs) × Seen rows (turn .0) s i
 abbrev μ-loop : tie.MeasureT-loop
 μ-loop turn rows s₀ i₀ s i = jobs - i
 
-unknown-requires : tie.Need-unknown-requires Inv-loop μ-loop
-unknown-requires c κs = search needs
-
 loop-holds : tie.Need-loop-holds Inv-loop μ-loop
 loop-holds c = (search needs, rw (c .unknown .ensures) (none-seen (c .before .args .t1) (c .before .args .turn .0)))
-
-mul-r : tie.Need-mul-r Inv-loop μ-loop
-mul-r c = search needs
-
-array-copy-out-r : tie.Need-array-copy-out-r Inv-loop μ-loop
-array-copy-out-r c = search needs
 
 joined-requires : tie.Need-joined-requires Inv-loop μ-loop
 joined-requires c κs =
     let a = c .before .before .before .before .args in
     let at = c .before .before .loop in
     omega (arith, passed-le (earlier (a .turn .0)) (a .t1) (at .i) (at .s .ahead) (at .inv .1 .counted))
-
-add-i : tie.Need-add-i Inv-loop μ-loop
-add-i c = search needs
-
-loop-less : tie.Need-loop-less Inv-loop μ-loop
-loop-less c = search needs
 
 loop-again : tie.Need-loop-again Inv-loop μ-loop
 loop-again c =
@@ -53,12 +38,12 @@ standing-spec =
     (tie.spec
     Inv-loop
     μ-loop
-    unknown-requires
+    (λ c κs. search needs)
     loop-holds
-    mul-r
-    array-copy-out-r
+    (λ c. search needs)
+    (λ c. search needs)
     joined-requires
-    add-i
-    loop-less
+    (λ c. search needs)
+    (λ c. search needs)
     loop-again
     returns)

@@ -14,32 +14,8 @@ Inv-loop rows standings₀ i₀ standings i = (i ≤ jobs) × (length standings 
 abbrev μ-loop : tie.MeasureT-loop
 μ-loop rows standings₀ i₀ standings i = jobs - i
 
-unknown-requires : tie.Need-unknown-requires Inv-loop μ-loop
-unknown-requires c κs = search needs
-
 loop-holds : tie.Need-loop-holds Inv-loop μ-loop
 loop-holds c = (search needs, refl, λ k h. absurd (omega arith))
-
-mul-r : tie.Need-mul-r Inv-loop μ-loop
-mul-r c = search needs
-
-array-copy-out-r : tie.Need-array-copy-out-r Inv-loop μ-loop
-array-copy-out-r c = search needs
-
-standing-requires : tie.Need-standing-requires Inv-loop μ-loop
-standing-requires c κs = search needs
-
-mul-standings : tie.Need-mul-standings Inv-loop μ-loop
-mul-standings c = search needs
-
-array-set-from-standings : tie.Need-array-set-from-standings Inv-loop μ-loop
-array-set-from-standings c = search needs
-
-add-i : tie.Need-add-i Inv-loop μ-loop
-add-i c = search needs
-
-loop-less : tie.Need-loop-less Inv-loop μ-loop
-loop-less c = search needs
 
 loop-again : tie.Need-loop-again Inv-loop μ-loop
 loop-again c =
@@ -51,9 +27,6 @@ loop-again c =
           (c .standing .ensures),
     )
 
-distinct-requires : tie.Need-distinct-requires Inv-loop μ-loop
-distinct-requires c κs = search needs
-
 returns : tie.Need-returns Inv-loop μ-loop
 returns c = record { each = λ j h. c .before .before .loop .inv .2 j (omega arith); apart = c .distinct .ensures }
 
@@ -63,15 +36,15 @@ survey-spec =
     (tie.spec
     Inv-loop
     μ-loop
-    unknown-requires
+    (λ c κs. search needs)
     loop-holds
-    mul-r
-    array-copy-out-r
-    standing-requires
-    mul-standings
-    array-set-from-standings
-    add-i
-    loop-less
+    (λ c. search needs)
+    (λ c. search needs)
+    (λ c κs. search needs)
+    (λ c. search needs)
+    (λ c. search needs)
+    (λ c. search needs)
+    (λ c. search needs)
     loop-again
-    distinct-requires
+    (λ c κs. search needs)
     returns)

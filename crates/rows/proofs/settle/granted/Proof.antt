@@ -7,17 +7,11 @@ use Rattle.rows.proofs.settle.granted.Tie as tie
 claimed : (c : tie.After-meets) → let a = c .before .args in meets (a .s .claims) (a .r .asked) ≡ c .meets .result
 claimed c = sym (c .meets .ensures)
 
-meets-requires : tie.Need-meets-requires
-meets-requires c κs = search needs
-
 returns : tie.Need-returns
 returns c = rw (claimed (c .before) ∙ c .if1 .taken)
-
-union-requires : tie.Need-union-requires
-union-requires c κs = search needs
 
 returns-2 : tie.Need-returns-2
 returns-2 c = rw (claimed (c .before .before) ∙ c .before .if1 .left, c .union .ensures)
 
 pub granted-spec : {M : Type 1} → statement M
-granted-spec = tie.close (tie.spec meets-requires returns union-requires returns-2)
+granted-spec = tie.close (tie.spec (λ c κs. search needs) returns (λ c κs. search needs) returns-2)

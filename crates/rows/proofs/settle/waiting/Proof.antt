@@ -3,12 +3,6 @@ use Rattle.rows.specs.Prelude.{needs, sym, _∙_}
 use Rattle.rows.proofs.settle.waiting.Statement.{statement}
 use Rattle.rows.proofs.settle.waiting.Tie as tie
 
-live-requires : tie.Need-live-requires
-live-requires c κs = search needs
-
-token-requires : tie.Need-token-requires
-token-requires c κs = search needs
-
 returns : tie.Need-returns
 returns c =
     rw
@@ -26,4 +20,4 @@ returns-3 : tie.Need-returns-3
 returns-3 c = rw (sym (c .before .live .ensures) ∙ c .if1 .left) (c .if1 .left)
 
 pub waiting-spec : {M : Type 1} → statement M
-waiting-spec = tie.close (tie.spec live-requires token-requires returns returns-2 returns-3)
+waiting-spec = tie.close (tie.spec (λ c κs. search needs) (λ c κs. search needs) returns returns-2 returns-3)

@@ -3,12 +3,6 @@ use Rattle.rows.specs.Prelude.{needs, sym, _∙_}
 use Rattle.rows.proofs.settle.wakes.Statement.{statement}
 use Rattle.rows.proofs.settle.wakes.Tie as tie
 
-waiting-requires : tie.Need-waiting-requires
-waiting-requires c κs = search needs
-
-waiting-requires-2 : tie.Need-waiting-requires-2
-waiting-requires-2 c κs = search needs
-
 returns : tie.Need-returns
 returns c = rw (sym (c .before .before .waiting .ensures) ∙ c .before .if1 .taken, c .waiting2 .ensures)
 
@@ -16,4 +10,4 @@ returns-2 : tie.Need-returns-2
 returns-2 c = rw (sym (c .before .waiting .ensures) ∙ c .if1 .left) (c .if1 .left)
 
 pub wakes-spec : {M : Type 1} → statement M
-wakes-spec = tie.close (tie.spec waiting-requires waiting-requires-2 returns returns-2)
+wakes-spec = tie.close (tie.spec (λ c κs. search needs) (λ c κs. search needs) returns returns-2)
