@@ -36,8 +36,8 @@ callNumbered n =
     (cond (eqb n 13) (For call.WriteStart) (eventCallNumbered n))))
 
 -- the event of that kind that a case hands over, and its start
-abbrev pub eventIn : Case → Kind → Event
-eventIn c k = eventOf (parts k (c .job) (c .tick) (c .set))
+abbrev pub caseEvent : Case → Kind → Event
+caseEvent c k = eventOf (parts k (c .job) (c .tick) (c .set))
 
-abbrev pub startIn : Case → Start
-startIn c = record { tokens = c .table .tokens; resources = c .table .resources; tick = c .tick; limit = c .table .limit }
+abbrev pub caseStart : Case → Start
+caseStart c = record { tokens = c .table .tokens; resources = c .table .resources; tick = c .tick; limit = c .table .limit }

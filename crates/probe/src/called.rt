@@ -1,7 +1,7 @@
 // Each call, made with what its case hands to it, and what is printed of it.
 ghost use Prim.Native.Nat.{_≤_};
 ghost use mathlib.Core.Path.{_≡_};
-ghost use Rattle.probe.specs.Calls.{eventIn, startIn};
+ghost use Rattle.probe.specs.Calls.{caseEvent, caseStart};
 use crate::calls::Call;
 use crate::layout::Case;
 use crate::shown;
@@ -15,7 +15,7 @@ use stream::Out;
 
 // The event of that kind that a case hands over.
 fn event_in(case: Case, kind: Kind) -> Event
-    ensures { λ r. ⌜ r ≡ eventIn case kind ⌝ }
+    ensures { λ r. ⌜ r ≡ caseEvent case kind ⌝ }
 {
     let tick = case.tick;
     event::event_of(Parts {
@@ -28,7 +28,7 @@ fn event_in(case: Case, kind: Kind) -> Event
 
 // The start that a case hands over.
 fn start_in(case: Case) -> Start
-    ensures { λ r. ⌜ r ≡ startIn case ⌝ }
+    ensures { λ r. ⌜ r ≡ caseStart case ⌝ }
 {
     let table = case.table;
     let tick = case.tick;
