@@ -1,27 +1,42 @@
 // Each call, made with what its case hands to it, and what is printed of it.
 ghost use Prim.Native.Nat.{_≤_};
 ghost use mathlib.Core.Path.{_≡_};
-ghost use Rattle.record.specs.Format.{eventOf};
-ghost use Rattle.probe.specs.Layout.{entryOf};
+ghost use Rattle.probe.specs.Calls.{caseEvent, caseStart};
+use crate::calls::Call;
 use crate::layout::Case;
 use crate::shown;
 use arbiter::Table;
 use event::Entry;
 use event::Event;
+use event::Kind;
+use event::Parts;
 use event::Start;
-use event::Tick;
 use stream::Out;
 
-// The event of that kind.
-fn event_of(kind: u8, job: u32, tick: Tick, set: u64) -> Event
-    ensures { λ r. ⌜ r ≡ eventOf (record { kind = kind; job = job; tick = tick; set = set }) ⌝ }
+// The event of that kind that a case hands over.
+fn event_in(case: Case, kind: Kind) -> Event
+    ensures { λ r. ⌜ r ≡ caseEvent case kind ⌝ }
 {
-    match kind {
-        0 => Event::Beat(tick),
-        1 => Event::Open { job, tick, set },
-        2 => Event::Ask { job, tick, set },
-        3 => Event::Release { job, tick, set },
-        _ => Event::Complete { job, tick },
+    let tick = case.tick;
+    event::event_of(Parts {
+        kind,
+        job: case.job,
+        tick,
+        set: case.set,
+    })
+}
+
+// The start that a case hands over.
+fn start_in(case: Case) -> Start
+    ensures { λ r. ⌜ r ≡ caseStart case ⌝ }
+{
+    let table = case.table;
+    let tick = case.tick;
+    Start {
+        tokens: table.tokens,
+        resources: table.resources,
+        tick,
+        limit: table.limit,
     }
 }
 
@@ -34,24 +49,25 @@ fn lend(list: &mut [u8]) {
     }
 }
 
-// Calls 0 to 4: an event.
-fn event(out: Out, room: &mut [u8], case: Case, list: &mut [u8]) -> Out
+// An event. Of a complete, which lists jobs, the list is printed too.
+fn event(out: Out, room: &mut [u8], case: Case, kind: Kind, list: &mut [u8]) -> Out
     ensures { λ r. ⌜ out .failures ≤ r .failures ⌝ }
 {
     let table = case.table;
-    let tick = case.tick;
-    let next = table.apply(event_of(case.call, case.job, tick, case.set), list);
+    let next = table.apply(event_in(case, kind), list);
     let answer = next.answer;
     let after = next.table;
     let told = shown::answer(out, room, answer);
-    if case.call == 4 {
-        let listed = shown::list(told, room, list);
-        return shown::table(listed, room, after);
+    match kind {
+        Kind::Complete => {
+            let listed = shown::list(told, room, list);
+            shown::table(listed, room, after)
+        }
+        _ => shown::table(told, room, after),
     }
-    shown::table(told, room, after)
 }
 
-// Call 5.
+// A report.
 fn report(out: Out, room: &mut [u8], case: Case) -> Out
     ensures { λ r. ⌜ out .failures ≤ r .failures ⌝ }
 {
@@ -60,7 +76,7 @@ fn report(out: Out, room: &mut [u8], case: Case) -> Out
     shown::table(told, room, table)
 }
 
-// Call 6.
+// Who is overdue.
 fn overdue(out: Out, room: &mut [u8], case: Case, list: &mut [u8]) -> Out
     ensures { λ r. ⌜ out .failures ≤ r .failures ⌝ }
 {
@@ -71,7 +87,7 @@ fn overdue(out: Out, room: &mut [u8], case: Case, list: &mut [u8]) -> Out
     shown::table(listed, room, table)
 }
 
-// Call 7.
+// A start.
 fn start(out: Out, room: &mut [u8], case: Case) -> Out
     ensures { λ r. ⌜ out .failures ≤ r .failures ⌝ }
 {
@@ -84,51 +100,34 @@ fn start(out: Out, room: &mut [u8], case: Case) -> Out
     shown::table(told, room, after)
 }
 
-// What calls 8 to 13 write: the event whose call is 8 less, or a start.
-fn entry_of(case: Case) -> Entry
-    ensures { λ r. ⌜ r ≡ entryOf case ⌝ }
-{
-    let table = case.table;
-    let tick = case.tick;
-    if case.call == 13 {
-        return Entry::Start(Start {
-            tokens: table.tokens,
-            resources: table.resources,
-            tick,
-            limit: table.limit,
-        });
-    }
-    Entry::Event(event_of(case.call % 8, case.job, tick, case.set))
-}
-
-// Calls 8 to 13: an entry is written.
-fn write(out: Out, room: &mut [u8], case: Case, list: &mut [u8]) -> Out
+// An entry is written.
+fn write(out: Out, room: &mut [u8], entry: Entry, list: &mut [u8]) -> Out
     ensures { λ r. ⌜ out .failures ≤ r .failures ⌝ }
 {
-    let told = shown::writing(out, room, record::write(entry_of(case), list));
+    let told = shown::writing(out, room, record::write(entry, list));
     shown::list(told, room, list)
 }
 
 // Any call, with a list lent to it.
-fn lent(out: Out, room: &mut [u8], case: Case, list: &mut [u8]) -> Out
+fn lent(out: Out, room: &mut [u8], case: Case, call: Call, list: &mut [u8]) -> Out
     ensures { λ r. ⌜ out .failures ≤ r .failures ⌝ }
 {
     lend(list);
-    let call = case.call;
     match call {
-        0..=4 => event(out, room, case, list),
-        5 => report(out, room, case),
-        6 => overdue(out, room, case, list),
-        7 => start(out, room, case),
-        _ => write(out, room, case, list),
+        Call::Event(kind) => event(out, room, case, kind, list),
+        Call::Report => report(out, room, case),
+        Call::Overdue => overdue(out, room, case, list),
+        Call::Start => start(out, room, case),
+        Call::Write(kind) => write(out, room, Entry::Event(event_in(case, kind)), list),
+        Call::WriteStart => write(out, room, Entry::Start(start_in(case)), list),
     }
 }
 
 // Any call. The longest list that a case can lend is one shorter than the array.
-pub fn case(out: Out, room: &mut [u8], case: Case) -> Out
+pub fn case(out: Out, room: &mut [u8], case: Case, call: Call) -> Out
     ensures { λ r. ⌜ out .failures ≤ r .failures ⌝ }
 {
     let mut space = io::large_buffer();
     let length = case.length as usize;
-    lent(out, room, case, &mut space[..length])
+    lent(out, room, case, call, &mut space[..length])
 }

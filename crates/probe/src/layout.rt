@@ -1,5 +1,5 @@
-// A case in its bytes, numbers most significant byte first: call 1 byte, job 4, tick 4, set 8, length of the lent list 2;
-// then the table: T 1, R 1, limit 4, true time 8, last turn 8, and for each job turn, declared, held, asked and since, 8 each.
+// A case in its bytes, numbers most significant byte first: the call, what is handed to it, how long the lent list is, and
+// the table: its own numbers, then each job's row.
 ghost use Prim.Native.Nat.{_<_};
 ghost use mathlib.Core.Path.{_≡_};
 ghost use Rattle.event.specs.Limits.{jobs};
@@ -10,16 +10,72 @@ use event::Tick;
 use rows::Row;
 use rows::Turn;
 
-// How many bytes come before the rows.
-const HEAD: usize = 41;
+// How wide the fields before the rows are, in bits.
+const CALL_WIDTH: u32 = 8;
 
-// How many bytes a row has.
-const ROW: usize = 40;
+const JOB_WIDTH: u32 = 32;
+
+const TICK_WIDTH: u32 = 32;
+
+const SET_WIDTH: u32 = 64;
+
+const LENGTH_WIDTH: u32 = 16;
+
+const TOKENS_WIDTH: u32 = 8;
+
+const RESOURCES_WIDTH: u32 = 8;
+
+const LIMIT_WIDTH: u32 = 32;
+
+const TIME_WIDTH: u32 = 64;
+
+const LAST_WIDTH: u32 = 64;
+
+// The bit at which each begins: where the one before it ends.
+const CALL_AT: usize = 0;
+
+const JOB_AT: usize = CALL_AT + CALL_WIDTH as usize;
+
+const TICK_AT: usize = JOB_AT + JOB_WIDTH as usize;
+
+const SET_AT: usize = TICK_AT + TICK_WIDTH as usize;
+
+const LENGTH_AT: usize = SET_AT + SET_WIDTH as usize;
+
+const TOKENS_AT: usize = LENGTH_AT + LENGTH_WIDTH as usize;
+
+const RESOURCES_AT: usize = TOKENS_AT + TOKENS_WIDTH as usize;
+
+const LIMIT_AT: usize = RESOURCES_AT + RESOURCES_WIDTH as usize;
+
+const TIME_AT: usize = LIMIT_AT + LIMIT_WIDTH as usize;
+
+const LAST_AT: usize = TIME_AT + TIME_WIDTH as usize;
+
+// The bit at which the rows begin.
+const ROWS_AT: usize = LAST_AT + LAST_WIDTH as usize;
+
+// How wide each field of a row is.
+const WORD: u32 = 64;
+
+// The bit of its row at which each begins.
+const TURN_AT: usize = 0;
+
+const DECLARED_AT: usize = TURN_AT + WORD as usize;
+
+const HELD_AT: usize = DECLARED_AT + WORD as usize;
+
+const ASKED_AT: usize = HELD_AT + WORD as usize;
+
+const SINCE_AT: usize = ASKED_AT + WORD as usize;
+
+// How wide a row is.
+const ROW_WIDTH: usize = SINCE_AT + WORD as usize;
 
 // How many bytes a case has.
-pub const CASE: usize = HEAD + JOBS * ROW;
+pub const CASE: usize = (ROWS_AT + JOBS * ROW_WIDTH) / 8;
 
-// A call, what is handed to it, and how long the lent list is.
+// A call's number, what is handed to the call, and how long the lent list is.
 pub struct Case {
     pub call: u8,
     pub job: u32,
@@ -34,13 +90,13 @@ fn row_at(bytes: &[u8; CASE], job: usize) -> Row
     requires { ⌜ job < jobs ⌝ }
     ensures { λ r. ⌜ r ≡ rowAt (now (bytes .entry)) job ⌝ }
 {
-    let at = (HEAD + job * ROW) * 8;
+    let at = ROWS_AT + job * ROW_WIDTH;
     Row {
-        turn: Turn(fields::read(bytes, at, 64)),
-        declared: fields::read(bytes, at + 64, 64),
-        held: fields::read(bytes, at + 128, 64),
-        asked: fields::read(bytes, at + 192, 64),
-        since: fields::read(bytes, at + 256, 64),
+        turn: Turn(fields::read(bytes, at + TURN_AT, WORD)),
+        declared: fields::read(bytes, at + DECLARED_AT, WORD),
+        held: fields::read(bytes, at + HELD_AT, WORD),
+        asked: fields::read(bytes, at + ASKED_AT, WORD),
+        since: fields::read(bytes, at + SINCE_AT, WORD),
     }
 }
 
@@ -64,11 +120,11 @@ fn table_of(bytes: &[u8; CASE]) -> Table
 {
     let rows = rows_of(bytes);
     Table {
-        tokens: fields::read(bytes, 152, 8) as u32,
-        resources: fields::read(bytes, 160, 8) as u32,
-        limit: fields::read(bytes, 168, 32) as u32,
-        time: fields::read(bytes, 200, 64),
-        last: Turn(fields::read(bytes, 264, 64)),
+        tokens: fields::read(bytes, TOKENS_AT, TOKENS_WIDTH) as u32,
+        resources: fields::read(bytes, RESOURCES_AT, RESOURCES_WIDTH) as u32,
+        limit: fields::read(bytes, LIMIT_AT, LIMIT_WIDTH) as u32,
+        time: fields::read(bytes, TIME_AT, TIME_WIDTH),
+        last: Turn(fields::read(bytes, LAST_AT, LAST_WIDTH)),
         rows,
     }
 }
@@ -78,11 +134,11 @@ pub fn case_of(bytes: &[u8; CASE]) -> Case
     ensures { λ r. ⌜ CaseIn (now (bytes .entry)) r ⌝ }
 {
     Case {
-        call: bytes[0],
-        job: fields::read(bytes, 8, 32) as u32,
-        tick: Tick(fields::read(bytes, 40, 32) as u32),
-        set: fields::read(bytes, 72, 64),
-        length: fields::read(bytes, 136, 16) as u16,
+        call: fields::read(bytes, CALL_AT, CALL_WIDTH) as u8,
+        job: fields::read(bytes, JOB_AT, JOB_WIDTH) as u32,
+        tick: Tick(fields::read(bytes, TICK_AT, TICK_WIDTH) as u32),
+        set: fields::read(bytes, SET_AT, SET_WIDTH),
+        length: fields::read(bytes, LENGTH_AT, LENGTH_WIDTH) as u16,
         table: table_of(bytes),
     }
 }

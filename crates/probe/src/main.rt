@@ -1,15 +1,14 @@
 // The public calls on any table, damaged ones too: reads cases one behind the other, makes each one's call and prints
 // the answer and all that the call left behind. A case of no known call, or a cut one, ends it with `cut`.
 mod called;
+mod calls;
 mod layout;
 mod shown;
 
 ghost use Prim.Native.Nat.{_≤_};
+use calls::Asked;
 use layout::CASE;
 use stream::Out;
-
-// The number of the last call.
-const LAST: u8 = 13;
 
 // What one case left: the output, and whether another may follow.
 struct After {
@@ -28,11 +27,12 @@ fn stop(out: Out) -> After
 fn whole(out: Out, room: &mut [u8], number: u64, bytes: &[u8; CASE]) -> After
     ensures { λ r. ⌜ out .failures ≤ r .out .failures ⌝ }
 {
-    if LAST < bytes[0] {
+    let case = layout::case_of(bytes);
+    let Asked::For(call) = calls::call_numbered(case.call) else {
         return stop(stream::text(out, room, b"cut\n"));
-    }
+    };
     let numbered = shown::number(out, room, number);
-    let told = called::case(numbered, room, layout::case_of(bytes));
+    let told = called::case(numbered, room, case, call);
     After {
         out: told,
         more: told.failures == 0,
