@@ -24,9 +24,6 @@ Inv-loop n out₀ at end left₀ k₀ out left k =
 abbrev μ-loop : tie.MeasureT-loop
 μ-loop n out₀ at end left₀ k₀ out left k = left
 
-len-requires : tie.Need-len-requires Inv-loop μ-loop
-len-requires c κs = search needs
-
 add-end : tie.Need-add-end Inv-loop μ-loop
 add-end c = omega arith
 
@@ -74,9 +71,6 @@ add-out-2 c = omega arith
 slice-write-out-2 : tie.Need-slice-write-out-2 Inv-loop μ-loop
 slice-write-out-2 c = omega arith
 
-same-length : tie.Need-same-length Inv-loop μ-loop
-same-length c = search needs
-
 returns : tie.Need-returns Inv-loop μ-loop
 returns c =
     let l = c .before .loop in
@@ -92,7 +86,7 @@ write-spec =
     (tie.spec
     Inv-loop
     μ-loop
-    len-requires
+    (λ c κs. search needs)
     add-end
     sub-k
     loop-holds
@@ -105,5 +99,5 @@ write-spec =
     cast-out-2
     add-out-2
     slice-write-out-2
-    same-length
+    (λ c. search needs)
     returns)

@@ -7,21 +7,6 @@ use Rattle.arbiter.specs.Meaning.{moved}
 use Rattle.arbiter.proofs.effect.completed.Statement.{statement}
 use Rattle.arbiter.proofs.effect.completed.Tie as tie
 
-idle-requires : tie.Need-idle-requires
-idle-requires c κs = search needs
-
-mul-changed : tie.Need-mul-changed
-mul-changed c = search needs
-
-array-set-from-changed : tie.Need-array-set-from-changed
-array-set-from-changed c = search needs
-
-survey-requires : tie.Need-survey-requires
-survey-requires c κs = search needs
-
-settled-requires : tie.Need-settled-requires
-settled-requires c κs = search needs
-
 wake-marks-requires : tie.Need-wake-marks-requires
 wake-marks-requires c κs =
     let start = c .before .before .before .before .before .before in
@@ -32,19 +17,10 @@ wake-marks-requires c κs =
       rw (c .settled .ensures) (surveyed-settled (t .tokens) changed (knows .result) (knows .ensures)),
     )
 
-line-up-requires : tie.Need-line-up-requires
-line-up-requires c κs = search needs
-
 write-marked-requires : tie.Need-write-marked-requires
 write-marked-requires c κs =
     let lines = c .before .line-up in
     (lines-valid (c .before .before .before .settled .result) (lines .result) (search needs) (lines .ensures), search needs)
-
-moved-requires : tie.Need-moved-requires
-moved-requires c κs = search needs
-
-same-length : tie.Need-same-length
-same-length c = search needs
 
 returns : tie.Need-returns
 unfolding woken
@@ -75,14 +51,14 @@ pub completed-spec : {M : Type 1} → statement M
 completed-spec =
     tie.close
     (tie.spec
-    idle-requires
-    mul-changed
-    array-set-from-changed
-    survey-requires
-    settled-requires
+    (λ c κs. search needs)
+    (λ c. search needs)
+    (λ c. search needs)
+    (λ c κs. search needs)
+    (λ c κs. search needs)
     wake-marks-requires
-    line-up-requires
+    (λ c κs. search needs)
     write-marked-requires
-    moved-requires
-    same-length
+    (λ c κs. search needs)
+    (λ c. search needs)
     returns)

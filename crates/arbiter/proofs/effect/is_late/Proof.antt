@@ -3,12 +3,6 @@ use Rattle.arbiter.specs.Prelude.{needs, sym, _∙_}
 use Rattle.arbiter.proofs.effect.is_late.Statement.{statement}
 use Rattle.arbiter.proofs.effect.is_late.Tie as tie
 
-waiting-requires : tie.Need-waiting-requires
-waiting-requires c κs = search needs
-
-waited-requires : tie.Need-waited-requires
-waited-requires c κs = search needs
-
 returns : tie.Need-returns
 returns c = rw (sym (c .before .before .waiting .ensures) ∙ c .before .if1 .taken, c .waited .ensures)
 
@@ -16,4 +10,4 @@ returns-2 : tie.Need-returns-2
 returns-2 c = rw (sym (c .before .waiting .ensures) ∙ c .if1 .left) (c .if1 .left)
 
 pub is-late-spec : {M : Type 1} → statement M
-is-late-spec = tie.close (tie.spec waiting-requires waited-requires returns returns-2)
+is-late-spec = tie.close (tie.spec (λ c κs. search needs) (λ c κs. search needs) returns returns-2)

@@ -5,20 +5,11 @@ use Rattle.arbiter.proofs.Arrays.{arrays}
 use Rattle.arbiter.proofs.effect.listed_late.Statement.{statement}
 use Rattle.arbiter.proofs.effect.listed_late.Tie as tie
 
-late-marks-requires : tie.Need-late-marks-requires
-late-marks-requires c κs = search needs
-
-line-up-requires : tie.Need-line-up-requires
-line-up-requires c κs = search needs
-
 write-marked-requires : tie.Need-write-marked-requires
 write-marked-requires c κs =
     let rows = c .before .before .before .before .before .args .t .rows in
     let lines = c .before .line-up in
     (lines-valid rows (lines .result) (search arrays) (lines .ensures), search needs)
-
-same-length : tie.Need-same-length
-same-length c = search needs
 
 returns : tie.Need-returns
 unfolding lateAt
@@ -34,4 +25,4 @@ returns c =
 pub listed-late-spec : {M : Type 1} → statement M
 listed-late-spec =
     tie.close
-    (tie.spec late-marks-requires line-up-requires write-marked-requires same-length returns)
+    (tie.spec (λ c κs. search needs) (λ c κs. search needs) write-marked-requires (λ c. search needs) returns)

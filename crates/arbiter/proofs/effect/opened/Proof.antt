@@ -15,25 +15,10 @@ token-is c =
     (c .token .ensures ∙ token-by (t .tokens) (t .rows) (stands .result) (t .last .0 + 1)
     (subst (λ (n : ℕ). Stands (t .rows) n (stands .result)) (turn .ensures) (stands .ensures)))
 
-next-turn-requires : tie.Need-next-turn-requires
-next-turn-requires c κs = search needs
-
-standing-requires : tie.Need-standing-requires
-standing-requires c κs = search needs
-
-token-requires : tie.Need-token-requires
-token-requires c κs = search needs
-
-with-row-requires : tie.Need-with-row-requires
-with-row-requires c κs = search needs
-
 returns : tie.Need-returns
 returns c =
     let has = token-is (c .before .before) ∙ c .before .if1 .taken in
     record { says = rw has; hands = c .with-row .ensures ∙ rw (has, c .before .before .before .before .next-turn .ensures) }
-
-with-row-requires-2 : tie.Need-with-row-requires-2
-with-row-requires-2 c κs = search needs
 
 returns-2 : tie.Need-returns-2
 returns-2 c =
@@ -44,10 +29,10 @@ pub opened-spec : {M : Type 1} → statement M
 opened-spec =
     tie.close
     (tie.spec
-    next-turn-requires
-    standing-requires
-    token-requires
-    with-row-requires
+    (λ c κs. search needs)
+    (λ c κs. search needs)
+    (λ c κs. search needs)
+    (λ c κs. search needs)
     returns
-    with-row-requires-2
+    (λ c κs. search needs)
     returns-2)

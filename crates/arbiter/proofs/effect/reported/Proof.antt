@@ -3,27 +3,6 @@ use Rattle.arbiter.specs.Prelude.{getD, needs, rowOf, token-by, unknown,
 use Rattle.arbiter.proofs.effect.reported.Statement.{statement}
 use Rattle.arbiter.proofs.effect.reported.Tie as tie
 
-mul-row : tie.Need-mul-row
-mul-row c = search needs
-
-array-copy-out-row : tie.Need-array-copy-out-row
-array-copy-out-row c = search needs
-
-mul-standing : tie.Need-mul-standing
-mul-standing c = search needs
-
-array-copy-out-standing : tie.Need-array-copy-out-standing
-array-copy-out-standing c = search needs
-
-token-requires : tie.Need-token-requires
-token-requires c κs = search needs
-
-waiting-requires : tie.Need-waiting-requires
-waiting-requires c κs = search needs
-
-in-way-requires : tie.Need-in-way-requires
-in-way-requires c κs = search needs
-
 returns : tie.Need-returns
 returns c =
     let start = c .before .before .before .before .before .before .before .before in
@@ -40,11 +19,11 @@ pub reported-spec : {M : Type 1} → statement M
 reported-spec =
     tie.close
     (tie.spec
-    mul-row
-    array-copy-out-row
-    mul-standing
-    array-copy-out-standing
-    token-requires
-    waiting-requires
-    in-way-requires
+    (λ c. search needs)
+    (λ c. search needs)
+    (λ c. search needs)
+    (λ c. search needs)
+    (λ c κs. search needs)
+    (λ c κs. search needs)
+    (λ c κs. search needs)
     returns)

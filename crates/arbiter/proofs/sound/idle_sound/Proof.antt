@@ -3,18 +3,9 @@ use Rattle.arbiter.specs.Prelude.{all, and-true, needs}
 use Rattle.arbiter.proofs.sound.idle_sound.Statement.{statement}
 use Rattle.arbiter.proofs.sound.idle_sound.Tie as tie
 
-both-requires : tie.Need-both-requires
-both-requires c κs = search needs
-
-both-requires-2 : tie.Need-both-requires-2
-both-requires-2 c κs = search needs
-
-both-requires-3 : tie.Need-both-requires-3
-both-requires-3 c κs = search needs
-
 returns : tie.Need-returns
 unfolding all
 returns c = rw (c .both3 .ensures, c .before .both2 .ensures, c .before .before .before .before .both .ensures, and-true)
 
 pub idle-sound-spec : {M : Type 1} → statement M
-idle-sound-spec = tie.close (tie.spec both-requires both-requires-2 both-requires-3 returns)
+idle-sound-spec = tie.close (tie.spec (λ c κs. search needs) (λ c κs. search needs) (λ c κs. search needs) returns)

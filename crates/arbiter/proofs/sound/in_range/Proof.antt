@@ -3,21 +3,6 @@ use Rattle.arbiter.specs.Prelude.{all, and-true, needs}
 use Rattle.arbiter.proofs.sound.in_range.Statement.{statement}
 use Rattle.arbiter.proofs.sound.in_range.Tie as tie
 
-both-requires : tie.Need-both-requires
-both-requires c κs = search needs
-
-both-requires-2 : tie.Need-both-requires-2
-both-requires-2 c κs = search needs
-
-both-requires-3 : tie.Need-both-requires-3
-both-requires-3 c κs = search needs
-
-both-requires-4 : tie.Need-both-requires-4
-both-requires-4 c κs = search needs
-
-both-requires-5 : tie.Need-both-requires-5
-both-requires-5 c κs = search needs
-
 returns : tie.Need-returns
 unfolding all
 returns c =
@@ -34,9 +19,9 @@ pub in-range-spec : {M : Type 1} → statement M
 in-range-spec =
     tie.close
     (tie.spec
-    both-requires
-    both-requires-2
-    both-requires-3
-    both-requires-4
-    both-requires-5
+    (λ c κs. search needs)
+    (λ c κs. search needs)
+    (λ c κs. search needs)
+    (λ c κs. search needs)
+    (λ c κs. search needs)
     returns)

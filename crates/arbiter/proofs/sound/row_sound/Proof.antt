@@ -5,23 +5,8 @@ use Rattle.arbiter.specs.Sound.{idleConditions}
 use Rattle.arbiter.proofs.sound.row_sound.Statement.{statement}
 use Rattle.arbiter.proofs.sound.row_sound.Tie as tie
 
-live-requires : tie.Need-live-requires
-live-requires c κs = search needs
-
-idle-sound-requires : tie.Need-idle-sound-requires
-idle-sound-requires c κs = search needs
-
 returns : tie.Need-returns
 returns c = rw (sym (c .before .before .live .ensures) ∙ not-true _ (c .before .if1 .taken)) (c .idle-sound .ensures)
-
-own-sound-requires : tie.Need-own-sound-requires
-own-sound-requires c κs = search needs
-
-place-sound-requires : tie.Need-place-sound-requires
-place-sound-requires c κs = search needs
-
-both-requires : tie.Need-both-requires
-both-requires c κs = search needs
 
 returns-2 : tie.Need-returns-2
 returns-2 c =
@@ -38,10 +23,10 @@ pub row-sound-spec : {M : Type 1} → statement M
 row-sound-spec =
     tie.close
     (tie.spec
-    live-requires
-    idle-sound-requires
+    (λ c κs. search needs)
+    (λ c κs. search needs)
     returns
-    own-sound-requires
-    place-sound-requires
-    both-requires
+    (λ c κs. search needs)
+    (λ c κs. search needs)
+    (λ c κs. search needs)
     returns-2)

@@ -5,18 +5,6 @@ use Rattle.arbiter.specs.Verdicts.{actCases, setCases}
 use Rattle.arbiter.proofs.verdict.act_on_verdict.Statement.{statement}
 use Rattle.arbiter.proofs.verdict.act_on_verdict.Tie as tie
 
-act-verdict-requires : tie.Need-act-verdict-requires
-act-verdict-requires c κs = search needs
-
-enum-known-act : tie.Need-enum-known-act
-enum-known-act c = search needs
-
-enum-known-act-2 : tie.Need-enum-known-act-2
-enum-known-act-2 c = search needs
-
-set-verdict-requires : tie.Need-set-verdict-requires
-set-verdict-requires c κs = search needs
-
 returns : tie.Need-returns
 returns c =
     let a = c .before .before .before .before .args in
@@ -34,9 +22,9 @@ pub act-on-verdict-spec : {M : Type 1} → statement M
 act-on-verdict-spec =
     tie.close
     (tie.spec
-    act-verdict-requires
-    enum-known-act
-    enum-known-act-2
-    set-verdict-requires
+    (λ c κs. search needs)
+    (λ c. search needs)
+    (λ c. search needs)
+    (λ c κs. search needs)
     returns
     returns-2)

@@ -5,15 +5,6 @@ use Rattle.arbiter.specs.Verdicts.{actorCases, entryCases}
 use Rattle.arbiter.proofs.verdict.act_verdict.Statement.{statement}
 use Rattle.arbiter.proofs.verdict.act_verdict.Tie as tie
 
-enter-requires : tie.Need-enter-requires
-enter-requires c κs = search needs
-
-enum-known-entry : tie.Need-enum-known-entry
-enum-known-entry c = search needs
-
-enum-known-entry-2 : tie.Need-enum-known-entry-2
-enum-known-entry-2 c = search needs
-
 actor-verdict-requires : tie.Need-actor-verdict-requires
 unfolding case
 actor-verdict-requires c κs =
@@ -38,9 +29,9 @@ pub act-verdict-spec : {M : Type 1} → statement M
 act-verdict-spec =
     tie.close
     (tie.spec
-    enter-requires
-    enum-known-entry
-    enum-known-entry-2
+    (λ c κs. search needs)
+    (λ c. search needs)
+    (λ c. search needs)
     actor-verdict-requires
     returns
     returns-2)

@@ -12,26 +12,8 @@ has-token c =
     let a = c .before .before .before .before .before in
     c .token .ensures ∙ ap (λ (n : ℕ). ltb n (a .args .t1 .tokens)) (a .pre .0 .each (a .args .k) (a .pre .1) .before)
 
-mul-row : tie.Need-mul-row
-mul-row c = search needs
-
-element-copy-out-row : tie.Need-element-copy-out-row
-element-copy-out-row c = search needs
-
-mul-standing : tie.Need-mul-standing
-mul-standing c = search needs
-
-element-copy-out-standing : tie.Need-element-copy-out-standing
-element-copy-out-standing c = search needs
-
-live-requires : tie.Need-live-requires
-live-requires c κs = search needs
-
 returns : tie.Need-returns
 returns c = outcome-is _ (this (ap not (sym (c .before .live .ensures)) ∙ c .if1 .taken))
-
-token-requires : tie.Need-token-requires
-token-requires c κs = search needs
 
 returns-2 : tie.Need-returns-2
 returns-2 c =
@@ -56,13 +38,13 @@ pub actor-verdict-spec : {M : Type 1} → statement M
 actor-verdict-spec =
     tie.close
     (tie.spec
-    mul-row
-    element-copy-out-row
-    mul-standing
-    element-copy-out-standing
-    live-requires
+    (λ c. search needs)
+    (λ c. search needs)
+    (λ c. search needs)
+    (λ c. search needs)
+    (λ c κs. search needs)
     returns
-    token-requires
+    (λ c κs. search needs)
     returns-2
     returns-3
     returns-4)

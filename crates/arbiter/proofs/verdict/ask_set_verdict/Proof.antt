@@ -3,14 +3,8 @@ use Rattle.arbiter.specs.Prelude.{ap, needs, none, not, outcome-is, past
 use Rattle.arbiter.proofs.verdict.ask_set_verdict.Statement.{statement}
 use Rattle.arbiter.proofs.verdict.ask_set_verdict.Tie as tie
 
-inside-requires : tie.Need-inside-requires
-inside-requires c κs = search needs
-
 returns : tie.Need-returns
 returns c = outcome-is _ (this (ap not (sym (c .before .inside .ensures)) ∙ c .if1 .taken))
-
-meets-requires : tie.Need-meets-requires
-meets-requires c κs = search needs
 
 returns-2 : tie.Need-returns-2
 returns-2 c =
@@ -24,4 +18,4 @@ returns-3 c =
 
 pub ask-set-verdict-spec : {M : Type 1} → statement M
 ask-set-verdict-spec =
-    tie.close (tie.spec inside-requires returns meets-requires returns-2 returns-3)
+    tie.close (tie.spec (λ c κs. search needs) returns (λ c κs. search needs) returns-2 returns-3)

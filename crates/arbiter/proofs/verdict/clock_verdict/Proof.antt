@@ -3,18 +3,12 @@ use Rattle.arbiter.specs.Prelude.{ap, forward, needs, not, outcome-is, o
 use Rattle.arbiter.proofs.verdict.clock_verdict.Statement.{statement}
 use Rattle.arbiter.proofs.verdict.clock_verdict.Tie as tie
 
-is-sound-requires : tie.Need-is-sound-requires
-is-sound-requires c κs = search needs
-
 returns : tie.Need-returns
 returns c = outcome-is _ (this (ap not (sym (c .before .is-sound .ensures)) ∙ c .if1 .taken))
-
-forward-requires : tie.Need-forward-requires
-forward-requires c κs = search needs
 
 returns-2 : tie.Need-returns-2
 unfolding forward
 returns-2 c = c .forward .ensures ∙ outcome-past _ _ _ _ (ap not (sym (c .before .before .is-sound .ensures)) ∙ c .before .if1 .left)
 
 pub clock-verdict-spec : {M : Type 1} → statement M
-clock-verdict-spec = tie.close (tie.spec is-sound-requires returns forward-requires returns-2)
+clock-verdict-spec = tie.close (tie.spec (λ c κs. search needs) returns (λ c κs. search needs) returns-2)

@@ -3,20 +3,11 @@ use Rattle.arbiter.specs.Prelude.{ap, forward, le-leb, lt-leb, needs, no
 use Rattle.arbiter.proofs.verdict.enter.Statement.{statement}
 use Rattle.arbiter.proofs.verdict.enter.Tie as tie
 
-is-sound-requires : tie.Need-is-sound-requires
-is-sound-requires c κs = search needs
-
 returns : tie.Need-returns
 returns c = outcome-is _ (this (ap not (sym (c .before .is-sound .ensures)) ∙ c .if1 .taken))
 
-cast-if2 : tie.Need-cast-if2
-cast-if2 c = search needs
-
 returns-2 : tie.Need-returns-2
 returns-2 c = outcome-is _ (past (ap not (sym (c .before .before .is-sound .ensures)) ∙ c .before .if1 .left) (this (le-leb _ _ (c .if2 .taken))))
-
-forward-requires : tie.Need-forward-requires
-forward-requires c κs = search needs
 
 returns-3 : tie.Need-returns-3
 unfolding forward
@@ -26,4 +17,4 @@ returns-3 c =
 
 pub enter-spec : {M : Type 1} → statement M
 enter-spec =
-    tie.close (tie.spec is-sound-requires returns cast-if2 returns-2 forward-requires returns-3)
+    tie.close (tie.spec (λ c κs. search needs) returns (λ c. search needs) returns-2 (λ c κs. search needs) returns-3)

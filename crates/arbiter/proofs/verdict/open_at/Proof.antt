@@ -5,29 +5,8 @@ use Rattle.arbiter.specs.Verdicts.{setCases, turnCases}
 use Rattle.arbiter.proofs.verdict.open_at.Statement.{statement}
 use Rattle.arbiter.proofs.verdict.open_at.Tie as tie
 
-mul-row : tie.Need-mul-row
-mul-row c = search needs
-
-element-copy-out-row : tie.Need-element-copy-out-row
-element-copy-out-row c = search needs
-
-live-requires : tie.Need-live-requires
-live-requires c κs = search needs
-
 returns : tie.Need-returns
 returns c = outcome-is _ (this (sym (c .before .live .ensures) ∙ c .if1 .taken))
-
-set-verdict-requires : tie.Need-set-verdict-requires
-set-verdict-requires c κs = search needs
-
-enum-known-verdict : tie.Need-enum-known-verdict
-enum-known-verdict c = search needs
-
-enum-known-verdict-2 : tie.Need-enum-known-verdict-2
-enum-known-verdict-2 c = search needs
-
-turn-verdict-requires : tie.Need-turn-verdict-requires
-turn-verdict-requires c κs = search needs
 
 returns-2 : tie.Need-returns-2
 returns-2 c =
@@ -49,13 +28,13 @@ pub open-at-spec : {M : Type 1} → statement M
 open-at-spec =
     tie.close
     (tie.spec
-    mul-row
-    element-copy-out-row
-    live-requires
+    (λ c. search needs)
+    (λ c. search needs)
+    (λ c κs. search needs)
     returns
-    set-verdict-requires
-    enum-known-verdict
-    enum-known-verdict-2
-    turn-verdict-requires
+    (λ c κs. search needs)
+    (λ c. search needs)
+    (λ c. search needs)
+    (λ c κs. search needs)
     returns-2
     returns-3)

@@ -5,15 +5,6 @@ use Rattle.arbiter.specs.Verdicts.{entryCases, openCases}
 use Rattle.arbiter.proofs.verdict.open_verdict.Statement.{statement}
 use Rattle.arbiter.proofs.verdict.open_verdict.Tie as tie
 
-enter-requires : tie.Need-enter-requires
-enter-requires c κs = search needs
-
-enum-known-entry : tie.Need-enum-known-entry
-enum-known-entry c = search needs
-
-enum-known-entry-2 : tie.Need-enum-known-entry-2
-enum-known-entry-2 c = search needs
-
 open-at-requires : tie.Need-open-at-requires
 unfolding case
 open-at-requires c κs =
@@ -38,9 +29,9 @@ pub open-verdict-spec : {M : Type 1} → statement M
 open-verdict-spec =
     tie.close
     (tie.spec
-    enter-requires
-    enum-known-entry
-    enum-known-entry-2
+    (λ c κs. search needs)
+    (λ c. search needs)
+    (λ c. search needs)
     open-at-requires
     returns
     returns-2)

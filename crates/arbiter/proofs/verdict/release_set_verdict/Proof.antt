@@ -3,9 +3,6 @@ use Rattle.arbiter.specs.Prelude.{ap, needs, none, not, outcome-is, past
 use Rattle.arbiter.proofs.verdict.release_set_verdict.Statement.{statement}
 use Rattle.arbiter.proofs.verdict.release_set_verdict.Tie as tie
 
-inside-requires : tie.Need-inside-requires
-inside-requires c κs = search needs
-
 returns : tie.Need-returns
 returns c = outcome-is _ (this (ap not (sym (c .before .inside .ensures)) ∙ c .if1 .taken))
 
@@ -13,4 +10,4 @@ returns-2 : tie.Need-returns-2
 returns-2 c = outcome-is _ (past (ap not (sym (c .before .inside .ensures)) ∙ c .if1 .left) none)
 
 pub release-set-verdict-spec : {M : Type 1} → statement M
-release-set-verdict-spec = tie.close (tie.spec inside-requires returns returns-2)
+release-set-verdict-spec = tie.close (tie.spec (λ c κs. search needs) returns returns-2)

@@ -5,18 +5,6 @@ use Rattle.arbiter.specs.Verdicts.{actOnCases, releaseCases}
 use Rattle.arbiter.proofs.verdict.release_verdict.Statement.{statement}
 use Rattle.arbiter.proofs.verdict.release_verdict.Tie as tie
 
-act-on-verdict-requires : tie.Need-act-on-verdict-requires
-act-on-verdict-requires c κs = search needs
-
-enum-known-act : tie.Need-enum-known-act
-enum-known-act c = search needs
-
-enum-known-act-2 : tie.Need-enum-known-act-2
-enum-known-act-2 c = search needs
-
-mul-row : tie.Need-mul-row
-mul-row c = search needs
-
 element-copy-out-row : tie.Need-element-copy-out-row
 unfolding case
 element-copy-out-row c =
@@ -24,9 +12,6 @@ element-copy-out-row c =
     let e = judged (c .before .act2 .given .1) (c .before .before .before .act-on-verdict .ensures) in
     let within : a .job < jobs = has-row (actOnCases (a .t1) (a .job) (a .tick .0) (a .s)) (a .job) _ _ refl refl e in
     search needs
-
-release-set-verdict-requires : tie.Need-release-set-verdict-requires
-release-set-verdict-requires c κs = search needs
 
 returns : tie.Need-returns
 returns c =
@@ -45,11 +30,11 @@ pub release-verdict-spec : {M : Type 1} → statement M
 release-verdict-spec =
     tie.close
     (tie.spec
-    act-on-verdict-requires
-    enum-known-act
-    enum-known-act-2
-    mul-row
+    (λ c κs. search needs)
+    (λ c. search needs)
+    (λ c. search needs)
+    (λ c. search needs)
     element-copy-out-row
-    release-set-verdict-requires
+    (λ c κs. search needs)
     returns
     returns-2)

@@ -11,16 +11,10 @@ not-higher a b h = go (ltb b a) refl
     go true e = let more = ltb-true b a e in sym (ne-eqb a b (λ q. omega arith))
     go false e = let less = ltb-false b a e in sym (eq-eqb a b (omega arith))
 
-earlier-requires : tie.Need-earlier-requires
-earlier-requires c κs = search needs
-
 returns : tie.Need-returns
 returns c =
     let less = ltb-true (c .before .before .args .last .0) highest (sym (c .before .earlier .ensures) ∙ c .if1 .taken) in
     sym (ne-eqb (c .before .before .args .last .0) highest (λ q. omega (arith, q, less)))
-
-earlier-requires-2 : tie.Need-earlier-requires-2
-earlier-requires-2 c κs = search needs
 
 returns-2 : tie.Need-returns-2
 returns-2 c =
@@ -29,4 +23,4 @@ returns-2 c =
     ∙ c .before .if1 .left))
 
 pub spent-spec : {M : Type 1} → statement M
-spent-spec = tie.close (tie.spec earlier-requires returns earlier-requires-2 returns-2)
+spent-spec = tie.close (tie.spec (λ c κs. search needs) returns (λ c κs. search needs) returns-2)

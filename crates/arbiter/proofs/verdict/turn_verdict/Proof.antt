@@ -3,9 +3,6 @@ use Rattle.arbiter.specs.Prelude.{needs, none, outcome-is, past, sym, th
 use Rattle.arbiter.proofs.verdict.turn_verdict.Statement.{statement}
 use Rattle.arbiter.proofs.verdict.turn_verdict.Tie as tie
 
-spent-requires : tie.Need-spent-requires
-spent-requires c κs = search needs
-
 returns : tie.Need-returns
 returns c = outcome-is _ (this (sym (c .before .spent .ensures) ∙ c .if1 .taken))
 
@@ -13,4 +10,4 @@ returns-2 : tie.Need-returns-2
 returns-2 c = outcome-is _ (past (sym (c .before .spent .ensures) ∙ c .if1 .left) none)
 
 pub turn-verdict-spec : {M : Type 1} → statement M
-turn-verdict-spec = tie.close (tie.spec spent-requires returns returns-2)
+turn-verdict-spec = tie.close (tie.spec (λ c κs. search needs) returns returns-2)

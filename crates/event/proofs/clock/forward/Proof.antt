@@ -6,18 +6,6 @@ use Rattle.event.specs.Limits.{highest}
 use Rattle.event.proofs.clock.forward.Statement.{statement}
 use Rattle.event.proofs.clock.forward.Tie as tie
 
-cast-difference : tie.Need-cast-difference
-cast-difference c = search needs
-
-add-difference : tie.Need-add-difference
-add-difference c = search needs
-
-sub-difference : tie.Need-sub-difference
-sub-difference c = search needs
-
-sub-room : tie.Need-sub-room
-sub-room c = search needs
-
 returns : tie.Need-returns
 unfolding forward
 returns c = outcome-is _ (this (le-leb _ _ (c .if1 .taken)))
@@ -29,9 +17,6 @@ returns-2 c =
     let next = time + difference time (c .before .before .before .args .tick .0) in
     outcome-is _ (past (lt-leb _ _ (c .before .if1 .left)) (this (lt-ltb highest next (omega arith))))
 
-add-t6 : tie.Need-add-t6
-add-t6 c = search needs
-
 returns-3 : tie.Need-returns-3
 unfolding forward
 returns-3 c =
@@ -41,4 +26,4 @@ returns-3 c =
 
 pub forward-spec : {M : Type 1} → statement M
 forward-spec =
-    tie.close (tie.spec cast-difference add-difference sub-difference sub-room returns returns-2 add-t6 returns-3)
+    tie.close (tie.spec (λ c. search needs) (λ c. search needs) (λ c. search needs) (λ c. search needs) returns returns-2 (λ c. search needs) returns-3)

@@ -5,9 +5,6 @@ use Rattle.laws.specs.SetLaws.{below-shift}
 use Rattle.laws.proofs.sets.below.Statement.{statement}
 use Rattle.laws.proofs.sets.below.Tie as tie
 
-shr-result : tie.Need-shr-result
-shr-result c = search needs
-
 returns : tie.Need-returns
 returns c =
     le-leb _ (c .before .args .r) (c .if1 .taken)
@@ -17,4 +14,4 @@ returns-2 : tie.Need-returns-2
 returns-2 c = sym (below-shift (c .before .args .s) (c .before .args .r))
 
 pub below-spec : {M : Type 1} → statement M
-below-spec = tie.close (tie.spec shr-result returns returns-2)
+below-spec = tie.close (tie.spec (λ c. search needs) returns returns-2)

@@ -4,14 +4,8 @@ use Rattle.norakkeun.proofs.Numbered.{numbered}
 use Rattle.norakkeun.proofs.calls.norakkeun_open.Statement.{statement}
 use Rattle.norakkeun.proofs.calls.norakkeun_open.Tie as tie
 
-open-requires : tie.Need-open-requires
-open-requires c κs = search needs
-
-event-in-numbers-requires : tie.Need-event-in-numbers-requires
-event-in-numbers-requires c κs = search needs
-
 returns : tie.Need-returns
 returns c = numbered (c .before .«open» .ensures) (c .event-in-numbers .ensures)
 
 pub norakkeun-open-spec : {M : Type 1} → statement M
-norakkeun-open-spec = tie.close (tie.spec open-requires event-in-numbers-requires returns)
+norakkeun-open-spec = tie.close (tie.spec (λ c κs. search needs) (λ c κs. search needs) returns)

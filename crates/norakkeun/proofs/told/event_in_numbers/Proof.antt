@@ -3,42 +3,6 @@ use Rattle.norakkeun.specs.Prelude.{needs, _∙_}
 use Rattle.norakkeun.proofs.told.event_in_numbers.Statement.{statement}
 use Rattle.norakkeun.proofs.told.event_in_numbers.Tie as tie
 
-enum-known-answer : tie.Need-enum-known-answer
-enum-known-answer c = search needs
-
-number-requires : tie.Need-number-requires
-number-requires c κs = search needs
-
-enum-told : tie.Need-enum-told
-enum-told c = search needs
-
-accepted-requires : tie.Need-accepted-requires
-accepted-requires c κs = search needs
-
-enum-told-2 : tie.Need-enum-told-2
-enum-told-2 c = search needs
-
-accepted-requires-2 : tie.Need-accepted-requires-2
-accepted-requires-2 c κs = search needs
-
-enum-told-3 : tie.Need-enum-told-3
-enum-told-3 c = search needs
-
-accepted-requires-3 : tie.Need-accepted-requires-3
-accepted-requires-3 c κs = search needs
-
-enum-told-4 : tie.Need-enum-told-4
-enum-told-4 c = search needs
-
-accepted-requires-4 : tie.Need-accepted-requires-4
-accepted-requires-4 c κs = search needs
-
-enum-known-answer-2 : tie.Need-enum-known-answer-2
-enum-known-answer-2 c = search needs
-
-accepted-requires-5 : tie.Need-accepted-requires-5
-accepted-requires-5 c κs = search needs
-
 returns : tie.Need-returns
 returns c = rw (c .before .before .answer .given .1, c .number .ensures)
 
@@ -61,18 +25,18 @@ pub event-in-numbers-spec : {M : Type 1} → statement M
 event-in-numbers-spec =
     tie.close
     (tie.spec
-    enum-known-answer
-    number-requires
-    enum-told
-    accepted-requires
-    enum-told-2
-    accepted-requires-2
-    enum-told-3
-    accepted-requires-3
-    enum-told-4
-    accepted-requires-4
-    enum-known-answer-2
-    accepted-requires-5
+    (λ c. search needs)
+    (λ c κs. search needs)
+    (λ c. search needs)
+    (λ c κs. search needs)
+    (λ c. search needs)
+    (λ c κs. search needs)
+    (λ c. search needs)
+    (λ c κs. search needs)
+    (λ c. search needs)
+    (λ c κs. search needs)
+    (λ c. search needs)
+    (λ c κs. search needs)
     returns
     returns-2
     returns-3

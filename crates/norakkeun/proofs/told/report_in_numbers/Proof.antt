@@ -3,15 +3,6 @@ use Rattle.norakkeun.specs.Prelude.{needs}
 use Rattle.norakkeun.proofs.told.report_in_numbers.Statement.{statement}
 use Rattle.norakkeun.proofs.told.report_in_numbers.Tie as tie
 
-enum-known-reported : tie.Need-enum-known-reported
-enum-known-reported c = search needs
-
-number-requires : tie.Need-number-requires
-number-requires c κs = search needs
-
-enum-known-reported-2 : tie.Need-enum-known-reported-2
-enum-known-reported-2 c = search needs
-
 returns : tie.Need-returns
 returns c = rw (c .before .before .reported .given .1, c .number .ensures)
 
@@ -21,4 +12,4 @@ returns-2 c = rw (c .before .reported2 .given .1)
 pub report-in-numbers-spec : {M : Type 1} → statement M
 report-in-numbers-spec =
     tie.close
-    (tie.spec enum-known-reported number-requires enum-known-reported-2 returns returns-2)
+    (tie.spec (λ c. search needs) (λ c κs. search needs) (λ c. search needs) returns returns-2)

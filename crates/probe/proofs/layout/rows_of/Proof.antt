@@ -17,26 +17,8 @@ Inv-loop bytes rows₀ job₀ rows job = (job ≤ jobs) × (length rows ≡ jobs
 abbrev μ-loop : tie.MeasureT-loop
 μ-loop bytes rows₀ job₀ rows job = jobs - job
 
-idle-requires : tie.Need-idle-requires Inv-loop μ-loop
-idle-requires c κs = search needs
-
 loop-holds : tie.Need-loop-holds Inv-loop μ-loop
 loop-holds c = (search needs, refl, λ k h. absurd (omega arith))
-
-row-at-requires : tie.Need-row-at-requires Inv-loop μ-loop
-row-at-requires c κs = search needs
-
-mul-rows : tie.Need-mul-rows Inv-loop μ-loop
-mul-rows c = search needs
-
-array-set-from-rows : tie.Need-array-set-from-rows Inv-loop μ-loop
-array-set-from-rows c = search needs
-
-add-job : tie.Need-add-job Inv-loop μ-loop
-add-job c = search needs
-
-loop-less : tie.Need-loop-less Inv-loop μ-loop
-loop-less c = search needs
 
 loop-again : tie.Need-loop-again Inv-loop μ-loop
 loop-again c =
@@ -57,12 +39,12 @@ rows-of-spec =
     (tie.spec
     Inv-loop
     μ-loop
-    idle-requires
+    (λ c κs. search needs)
     loop-holds
-    row-at-requires
-    mul-rows
-    array-set-from-rows
-    add-job
-    loop-less
+    (λ c κs. search needs)
+    (λ c. search needs)
+    (λ c. search needs)
+    (λ c. search needs)
+    (λ c. search needs)
     loop-again
     returns)

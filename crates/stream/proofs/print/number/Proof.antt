@@ -8,23 +8,11 @@ front : {before t after : List ℕ} {end : ℕ} → Wrote before 0 t end after �
 unfolding over
 front {before} {t} w = rw (w .ends, w .left, zero-add, laid-front) (take-at t (drop (length t) before) (length t) refl)
 
-slice-aggregate-write : tie.Need-slice-aggregate-write
-slice-aggregate-write c = search needs
-
 write-requires : tie.Need-write-requires
 write-requires c κs = omega (arith, length-text-u64 (c .before .before .args .n) (c .before .before .fits .n .fits))
 
-array-share-prefix-digits : tie.Need-array-share-prefix-digits
-array-share-prefix-digits c = search needs
-
 slice-aggregate-text : tie.Need-slice-aggregate-text
 slice-aggregate-text c = sym (length-take-le (c .before .before .before .write .result) (c .before .before .before .write .last .1 .0) (omega (arith, length-text-u64 (c .before .before .before .before .before .before .args .n) (c .before .before .before .before .before .before .fits .n .fits), c .before .before .before .write .ensures .ends, c .before .before .before .write .kept .1 .0)))
-
-text-requires : tie.Need-text-requires
-text-requires c κs = search needs
-
-same-length : tie.Need-same-length
-same-length c = search needs
 
 returns : tie.Need-returns
 returns c = rw (front (c .before .before .before .before .before .before .write .ensures)) at (c .before .before .text .ensures)
@@ -33,10 +21,10 @@ pub number-spec : {M : Type 1} → statement M
 number-spec =
     tie.close
     (tie.spec
-    slice-aggregate-write
+    (λ c. search needs)
     write-requires
-    array-share-prefix-digits
+    (λ c. search needs)
     slice-aggregate-text
-    text-requires
-    same-length
+    (λ c κs. search needs)
+    (λ c. search needs)
     returns)

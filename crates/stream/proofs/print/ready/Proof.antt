@@ -3,17 +3,8 @@ use Rattle.stream.specs.Prelude.{_+_, arith, le-leb, length, lt-leb, nee
 use Rattle.stream.proofs.print.ready.Statement.{statement}
 use Rattle.stream.proofs.print.ready.Tie as tie
 
-flush-requires : tie.Need-flush-requires
-flush-requires c κs = search needs
-
 returns : tie.Need-returns
 returns c = record { place = rw (lt-leb (c .before .before .before .before .args .out .at + c .before .before .before .before .args .n) (length (c .before .before .before .before .args .room .now)) (omega arith)) (c .flush .ensures .none); kept = omega arith }
-
-sub-if2 : tie.Need-sub-if2
-sub-if2 c = search needs
-
-flush-requires-2 : tie.Need-flush-requires-2
-flush-requires-2 c κs = search needs
 
 returns-2 : tie.Need-returns-2
 returns-2 c = record { place = rw (lt-leb (c .before .before .before .before .before .before .args .out .at + c .before .before .before .before .before .before .args .n) (length (c .before .before .before .before .before .before .args .room .now)) (omega arith)) (c .flush2 .ensures .none); kept = omega arith }
@@ -23,4 +14,4 @@ returns-3 c = record { place = rw (le-leb (c .before .before .before .before .be
 
 pub ready-spec : {M : Type 1} → statement M
 ready-spec =
-    tie.close (tie.spec flush-requires returns sub-if2 flush-requires-2 returns-2 returns-3)
+    tie.close (tie.spec (λ c κs. search needs) returns (λ c. search needs) (λ c κs. search needs) returns-2 returns-3)

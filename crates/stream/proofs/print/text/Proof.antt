@@ -4,23 +4,11 @@ use Rattle.stream.proofs.Places.{place-fits}
 use Rattle.stream.proofs.print.text.Statement.{statement}
 use Rattle.stream.proofs.print.text.Tie as tie
 
-ready-requires : tie.Need-ready-requires
-ready-requires c κs = search needs
-
-hand-over-requires : tie.Need-hand-over-requires
-hand-over-requires c κs = search needs
-
-same-length : tie.Need-same-length
-same-length c = search needs
-
 returns : tie.Need-returns
 returns c = record { waits = λ h. absurd (omega arith); straight = λ h. (refl, refl); kept = omega arith }
 
 put-requires : tie.Need-put-requires
 put-requires c κs = omega (arith, c .before .before .ready .ensures .place, place-fits (length (c .before .before .before .before .before .before .args .room .now)) (c .before .before .before .before .before .before .args .out .at) (length (c .before .before .before .before .before .before .args .bytes .now)) (omega arith))
-
-same-length-2 : tie.Need-same-length-2
-same-length-2 c = search needs
 
 returns-2 : tie.Need-returns-2
 returns-2 c = record { waits = λ h. rw (← c .before .before .before .before .before .ready .ensures .place) (c .before .before .put .ensures); straight = λ h. absurd (omega arith); kept = omega arith }
@@ -29,10 +17,10 @@ pub text-spec : {M : Type 1} → statement M
 text-spec =
     tie.close
     (tie.spec
-    ready-requires
-    hand-over-requires
-    same-length
+    (λ c κs. search needs)
+    (λ c κs. search needs)
+    (λ c. search needs)
     returns
     put-requires
-    same-length-2
+    (λ c. search needs)
     returns-2)

@@ -20,36 +20,6 @@ module _ (t : Table) (e : Event) (out : List ℕ) (r : Next) where
         lists = sym (rw quiet (leaves-same (cases (length out) t e) out));
       }
 
-enum-known-event : tie.Need-enum-known-event
-enum-known-event c = search needs
-
-beat-requires : tie.Need-beat-requires
-beat-requires c κs = search needs
-
-enum-known-event-2 : tie.Need-enum-known-event-2
-enum-known-event-2 c = search needs
-
-open-requires : tie.Need-open-requires
-open-requires c κs = search needs
-
-enum-known-event-3 : tie.Need-enum-known-event-3
-enum-known-event-3 c = search needs
-
-ask-requires : tie.Need-ask-requires
-ask-requires c κs = search needs
-
-enum-known-event-4 : tie.Need-enum-known-event-4
-enum-known-event-4 c = search needs
-
-release-requires : tie.Need-release-requires
-release-requires c κs = search needs
-
-enum-known-event-5 : tie.Need-enum-known-event-5
-enum-known-event-5 c = search needs
-
-complete-requires : tie.Need-complete-requires
-complete-requires c κs = search needs
-
 returns : tie.Need-returns
 returns c =
     let a = c .before .before .before .before .before .args in
@@ -70,9 +40,6 @@ returns-4 c =
     let a = c .before .before .before .before .before .args in
     rw (c .before .before .event4 .given .1) (unlisted (a .self) _ (a .woken .now) _ refl refl (c .release .ensures))
 
-same-length : tie.Need-same-length
-same-length c = search needs
-
 returns-5 : tie.Need-returns-5
 returns-5 c = rw (c .before .before .before .before .before .event5 .given .1) (c .before .before .complete .ensures)
 
@@ -80,19 +47,19 @@ pub apply-spec : {M : Type 1} → statement M
 apply-spec =
     tie.close
     (tie.spec
-    enum-known-event
-    beat-requires
-    enum-known-event-2
-    open-requires
-    enum-known-event-3
-    ask-requires
-    enum-known-event-4
-    release-requires
-    enum-known-event-5
-    complete-requires
+    (λ c. search needs)
+    (λ c κs. search needs)
+    (λ c. search needs)
+    (λ c κs. search needs)
+    (λ c. search needs)
+    (λ c κs. search needs)
+    (λ c. search needs)
+    (λ c κs. search needs)
+    (λ c. search needs)
+    (λ c κs. search needs)
     returns
     returns-2
     returns-3
     returns-4
-    same-length
+    (λ c. search needs)
     returns-5)

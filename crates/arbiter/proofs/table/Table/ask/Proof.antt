@@ -7,21 +7,6 @@ use Rattle.arbiter.specs.Refusals.{cases}
 use Rattle.arbiter.proofs.table.Table.ask.Statement.{statement}
 use Rattle.arbiter.proofs.table.Table.ask.Tie as tie
 
-survey-requires : tie.Need-survey-requires
-survey-requires c κs = search needs
-
-ask-verdict-requires : tie.Need-ask-verdict-requires
-ask-verdict-requires c κs = search needs
-
-enum-known-verdict : tie.Need-enum-known-verdict
-enum-known-verdict c = search needs
-
-refused-requires : tie.Need-refused-requires
-refused-requires c κs = search needs
-
-enum-known-verdict-2 : tie.Need-enum-known-verdict-2
-enum-known-verdict-2 c = search needs
-
 asked-requires : tie.Need-asked-requires
 unfolding case
 asked-requires c κs =
@@ -47,11 +32,11 @@ pub ask-spec : {M : Type 1} → statement M
 ask-spec =
     tie.close
     (tie.spec
-    survey-requires
-    ask-verdict-requires
-    enum-known-verdict
-    refused-requires
-    enum-known-verdict-2
+    (λ c κs. search needs)
+    (λ c κs. search needs)
+    (λ c. search needs)
+    (λ c κs. search needs)
+    (λ c. search needs)
     asked-requires
     returns
     returns-2)

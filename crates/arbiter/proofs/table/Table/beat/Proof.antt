@@ -6,24 +6,6 @@ use Rattle.arbiter.specs.Meaning.{moved, timeAt}
 use Rattle.arbiter.proofs.table.Table.beat.Statement.{statement}
 use Rattle.arbiter.proofs.table.Table.beat.Tie as tie
 
-survey-requires : tie.Need-survey-requires
-survey-requires c κs = search needs
-
-clock-verdict-requires : tie.Need-clock-verdict-requires
-clock-verdict-requires c κs = search needs
-
-enum-known-verdict : tie.Need-enum-known-verdict
-enum-known-verdict c = search needs
-
-refused-requires : tie.Need-refused-requires
-refused-requires c κs = search needs
-
-enum-known-verdict-2 : tie.Need-enum-known-verdict-2
-enum-known-verdict-2 c = search needs
-
-moved-requires : tie.Need-moved-requires
-moved-requires c κs = search needs
-
 returns : tie.Need-returns
 returns c =
     let a = c .before .before .before .before .before .before .before .args in
@@ -42,11 +24,11 @@ pub beat-spec : {M : Type 1} → statement M
 beat-spec =
     tie.close
     (tie.spec
-    survey-requires
-    clock-verdict-requires
-    enum-known-verdict
-    refused-requires
-    enum-known-verdict-2
-    moved-requires
+    (λ c κs. search needs)
+    (λ c κs. search needs)
+    (λ c. search needs)
+    (λ c κs. search needs)
+    (λ c. search needs)
+    (λ c κs. search needs)
     returns
     returns-2)

@@ -8,29 +8,11 @@ use Rattle.arbiter.specs.Verdicts.{actCases}
 use Rattle.arbiter.proofs.table.Table.complete.Statement.{statement}
 use Rattle.arbiter.proofs.table.Table.complete.Tie as tie
 
-refused-requires : tie.Need-refused-requires
-refused-requires c κs = search needs
-
 returns : tie.Need-returns
 returns c =
     let a = c .before .before .before .args in
     refused-answers-into (a .self) (Complete (a .job) (a .tick)) (timeAt (a .self) (a .tick .0)) _ _ _
     (outcome-is _ (this (lt-ltb _ _ (c .before .if1 .taken)))) (c .refused .ensures)
-
-survey-requires : tie.Need-survey-requires
-survey-requires c κs = search needs
-
-act-verdict-requires : tie.Need-act-verdict-requires
-act-verdict-requires c κs = search needs
-
-enum-known-verdict : tie.Need-enum-known-verdict
-enum-known-verdict c = search needs
-
-refused-requires-2 : tie.Need-refused-requires-2
-refused-requires-2 c κs = search needs
-
-enum-known-verdict-2 : tie.Need-enum-known-verdict-2
-enum-known-verdict-2 c = search needs
 
 completed-requires : tie.Need-completed-requires
 unfolding case
@@ -52,9 +34,6 @@ returns-2 c =
     ∙ outcome-past _ _ _ _ (le-ltb _ _ (c .before .before .before .before .before .before .before .if1 .left)))
     (c .refused2 .ensures)
 
-same-length : tie.Need-same-length
-same-length c = search needs
-
 returns-3 : tie.Need-returns-3
 returns-3 c =
     let a = c .before .before .before .before .before .before .before .before .before .before .before .before .args in
@@ -70,14 +49,14 @@ pub complete-spec : {M : Type 1} → statement M
 complete-spec =
     tie.close
     (tie.spec
-    refused-requires
+    (λ c κs. search needs)
     returns
-    survey-requires
-    act-verdict-requires
-    enum-known-verdict
-    refused-requires-2
-    enum-known-verdict-2
+    (λ c κs. search needs)
+    (λ c κs. search needs)
+    (λ c. search needs)
+    (λ c κs. search needs)
+    (λ c. search needs)
     completed-requires
     returns-2
-    same-length
+    (λ c. search needs)
     returns-3)

@@ -7,21 +7,6 @@ use Rattle.arbiter.specs.Refusals.{cases}
 use Rattle.arbiter.proofs.table.Table.open.Statement.{statement}
 use Rattle.arbiter.proofs.table.Table.open.Tie as tie
 
-survey-requires : tie.Need-survey-requires
-survey-requires c κs = search needs
-
-open-verdict-requires : tie.Need-open-verdict-requires
-open-verdict-requires c κs = search needs
-
-enum-known-verdict : tie.Need-enum-known-verdict
-enum-known-verdict c = search needs
-
-refused-requires : tie.Need-refused-requires
-refused-requires c κs = search needs
-
-enum-known-verdict-2 : tie.Need-enum-known-verdict-2
-enum-known-verdict-2 c = search needs
-
 opened-requires : tie.Need-opened-requires
 unfolding case
 opened-requires c κs =
@@ -49,11 +34,11 @@ pub open-spec : {M : Type 1} → statement M
 open-spec =
     tie.close
     (tie.spec
-    survey-requires
-    open-verdict-requires
-    enum-known-verdict
-    refused-requires
-    enum-known-verdict-2
+    (λ c κs. search needs)
+    (λ c κs. search needs)
+    (λ c. search needs)
+    (λ c κs. search needs)
+    (λ c. search needs)
     opened-requires
     returns
     returns-2)

@@ -39,18 +39,6 @@ module _ (t : Table) (tick : ℕ) (before : List ℕ) where
 returns : tie.Need-returns
 returns c = let a = c .before .before .args in refused-late (a .self) (a .tick .0) _ _ (outcome-is _ (this (lt-ltb _ _ (c .if1 .taken))))
 
-survey-requires : tie.Need-survey-requires
-survey-requires c κs = search needs
-
-clock-verdict-requires : tie.Need-clock-verdict-requires
-clock-verdict-requires c κs = search needs
-
-enum-known-verdict : tie.Need-enum-known-verdict
-enum-known-verdict c = search needs
-
-enum-known-verdict-2 : tie.Need-enum-known-verdict-2
-enum-known-verdict-2 c = search needs
-
 listed-late-requires : tie.Need-listed-late-requires
 listed-late-requires c κs = (
   c .before .before .before .before .before .survey .ensures,
@@ -63,9 +51,6 @@ returns-2 c =
     refused-late (a .self) (a .tick .0) _ _
     (judged (c .before .verdict .given .1) (c .before .before .before .clock-verdict .ensures)
     ∙ outcome-past _ _ _ _ (le-ltb _ _ (c .before .before .before .before .before .before .if1 .left)))
-
-same-length : tie.Need-same-length
-same-length c = search needs
 
 returns-3 : tie.Need-returns-3
 returns-3 c =
@@ -82,11 +67,11 @@ overdue-spec =
     tie.close
     (tie.spec
     returns
-    survey-requires
-    clock-verdict-requires
-    enum-known-verdict
-    enum-known-verdict-2
+    (λ c κs. search needs)
+    (λ c κs. search needs)
+    (λ c. search needs)
+    (λ c. search needs)
     listed-late-requires
     returns-2
-    same-length
+    (λ c. search needs)
     returns-3)

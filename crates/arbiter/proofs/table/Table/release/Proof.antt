@@ -7,21 +7,6 @@ use Rattle.arbiter.specs.Refusals.{cases}
 use Rattle.arbiter.proofs.table.Table.release.Statement.{statement}
 use Rattle.arbiter.proofs.table.Table.release.Tie as tie
 
-survey-requires : tie.Need-survey-requires
-survey-requires c κs = search needs
-
-release-verdict-requires : tie.Need-release-verdict-requires
-release-verdict-requires c κs = search needs
-
-enum-known-verdict : tie.Need-enum-known-verdict
-enum-known-verdict c = search needs
-
-refused-requires : tie.Need-refused-requires
-refused-requires c κs = search needs
-
-enum-known-verdict-2 : tie.Need-enum-known-verdict-2
-enum-known-verdict-2 c = search needs
-
 released-requires : tie.Need-released-requires
 unfolding case
 released-requires c κs =
@@ -47,11 +32,11 @@ pub release-spec : {M : Type 1} → statement M
 release-spec =
     tie.close
     (tie.spec
-    survey-requires
-    release-verdict-requires
-    enum-known-verdict
-    refused-requires
-    enum-known-verdict-2
+    (λ c κs. search needs)
+    (λ c κs. search needs)
+    (λ c. search needs)
+    (λ c κs. search needs)
+    (λ c. search needs)
     released-requires
     returns
     returns-2)

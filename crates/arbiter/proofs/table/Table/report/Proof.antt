@@ -4,31 +4,13 @@ use Rattle.arbiter.specs.Meaning.{report}
 use Rattle.arbiter.proofs.table.Table.report.Statement.{statement}
 use Rattle.arbiter.proofs.table.Table.report.Tie as tie
 
-survey-requires : tie.Need-survey-requires
-survey-requires c κs = search needs
-
-is-sound-requires : tie.Need-is-sound-requires
-is-sound-requires c κs = search needs
-
 returns : tie.Need-returns
 unfolding report
 returns c = outcome-is _ (this (ap not (sym (c .before .is-sound .ensures)) ∙ c .if1 .taken))
 
-cast-if2 : tie.Need-cast-if2
-cast-if2 c = search needs
-
 returns-2 : tie.Need-returns-2
 unfolding report
 returns-2 c = outcome-is _ (past (ap not (sym (c .before .before .is-sound .ensures)) ∙ c .before .if1 .left) (this (le-leb _ _ (c .if2 .taken))))
-
-mul-row : tie.Need-mul-row
-mul-row c = search needs
-
-array-copy-out-row : tie.Need-array-copy-out-row
-array-copy-out-row c = search needs
-
-live-requires : tie.Need-live-requires
-live-requires c κs = search needs
 
 returns-3 : tie.Need-returns-3
 unfolding report
@@ -53,14 +35,14 @@ pub report-spec : {M : Type 1} → statement M
 report-spec =
     tie.close
     (tie.spec
-    survey-requires
-    is-sound-requires
+    (λ c κs. search needs)
+    (λ c κs. search needs)
     returns
-    cast-if2
+    (λ c. search needs)
     returns-2
-    mul-row
-    array-copy-out-row
-    live-requires
+    (λ c. search needs)
+    (λ c. search needs)
+    (λ c κs. search needs)
     returns-3
     reported-requires
     returns-4)

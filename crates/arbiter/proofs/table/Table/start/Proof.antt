@@ -4,15 +4,6 @@ use Rattle.arbiter.specs.Meaning.{startAnswer, startTable}
 use Rattle.arbiter.proofs.table.Table.start.Statement.{statement}
 use Rattle.arbiter.proofs.table.Table.start.Tie as tie
 
-idle-requires : tie.Need-idle-requires
-idle-requires c κs = search needs
-
-in-range-requires : tie.Need-in-range-requires
-in-range-requires c κs = search needs
-
-refused-requires : tie.Need-refused-requires
-refused-requires c κs = search needs
-
 returns : tie.Need-returns
 unfolding startAnswer startTable
 returns c =
@@ -25,9 +16,6 @@ returns c =
           (c .before .before .before .idle .ensures)
           ∙ leaves-is _ _ out;
     }
-
-cast-t13 : tie.Need-cast-t13
-cast-t13 c = search needs
 
 returns-2 : tie.Need-returns-2
 unfolding startAnswer startTable
@@ -54,4 +42,4 @@ returns-2 c =
 pub start-spec : {M : Type 1} → statement M
 start-spec =
     tie.close
-    (tie.spec idle-requires in-range-requires refused-requires returns cast-t13 returns-2)
+    (tie.spec (λ c κs. search needs) (λ c κs. search needs) (λ c κs. search needs) returns (λ c. search needs) returns-2)
