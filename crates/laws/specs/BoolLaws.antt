@@ -1,5 +1,5 @@
 -- Laws of truth values: as numbers, in conjunctions, in choices.
-use Rattle.laws.specs.Prelude.{_&&_, Bool, and-comm, ap, arith, cond, false, le-leb, leb, lt-leb, ltb, ltb-false, ltb-true, not, refl, sym, true, ℕ, _∙_, _≡_, _≤_}
+use Rattle.laws.specs.Prelude.{_&&_, Bool, and-comm, ap, arith, cond, false, le-leb, leb, lt-leb, ltb, ltb-false, ltb-true, not, refl, sym, true, true≢false, _||_, ℕ, _∙_, _≡_, _≤_}
 use Rattle.laws.specs.Bools.{bit, implies}
 
 pub bit-le : (b : Bool) → bit b ≤ 1
@@ -47,3 +47,8 @@ pub denying : (a b : Bool) → (b ≡ false → a ≡ false) → implies a b ≡
 denying true true h = refl
 denying true false h = sym (h refl)
 denying false b h = refl
+
+-- where neither of two holds
+pub or-clear : (a b : Bool) → (a || b) ≡ false → (a ≡ false) × (b ≡ false)
+or-clear true b e = absurd (true≢false e)
+or-clear false b e = (refl, e)

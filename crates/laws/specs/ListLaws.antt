@@ -1,7 +1,7 @@
 -- Laws of how many, any and all.
-use Rattle.laws.specs.Prelude.{_&&_, _+_, _++_, _<_, Bool, List, [], add-assoc, add-comm, add-one, add-zero, and-assoc, and-comm, ap, arith, below-more, drop, drop-cons, drop-of-length-le, false, getD, getD-set-other, getD-set-same, le-of-suc-le-suc, length, lt-ltb, ltb, map, not-suc-le-zero, or-assoc, or-comm, refl, set, suc, sym, true, zero, zero-add, _||_, ℕ, _∙_, _∷_, _≡_, _≤_}
+use Rattle.laws.specs.Prelude.{_&&_, _+_, _++_, _<_, Bool, List, [], add-assoc, add-comm, add-one, add-zero, and-assoc, and-comm, ap, arith, below-more, drop, drop-cons, drop-of-length-le, false, getD, getD-set-other, getD-set-same, le-of-suc-le-suc, length, lt-ltb, ltb, ltb-false, map, not-suc-le-zero, or-assoc, or-comm, refl, set, suc, sym, true, zero, zero-add, _||_, ℕ, _∙_, _∷_, _≡_, _≤_}
 use Rattle.laws.specs.Bools.{bit}
-use Rattle.laws.specs.BoolLaws.{bit-le}
+use Rattle.laws.specs.BoolLaws.{bit-le, or-clear}
 use Rattle.laws.specs.Lists.{count, any, all}
 
 -- ---- When one element is set
@@ -121,3 +121,10 @@ module _ {A : Type 0} (P : ℕ → A → Type 0) (d : A) where
       below-more (λ k. P k (getD (set l i x) k d)) i
       (λ k h. rw (getD-set-other l i k x d (λ e. omega (arith, e))) (filled k h))
       (rw (getD-set-same l i x d below) here)
+
+-- where none of some numbers is above 0
+pub none-above : (n : ℕ) (ns : List ℕ) → any (ltb 0) (n ∷ ns) ≡ false → (0 ≡ n) × (any (ltb 0) ns ≡ false)
+unfolding any
+none-above n ns e =
+    let tests = or-clear (ltb 0 n) (any (ltb 0) ns) e in
+    (omega (arith, ltb-false 0 n (tests .0)), tests .1)
