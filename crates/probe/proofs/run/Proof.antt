@@ -1,10 +1,5 @@
 -- The numbers that are left fall at each turn.
-use Prim.Native.Nat.{_-_, _^_, _≤_}
-use mathlib.Core.Path.{_≡_}
-use native.Mathlib.Omega.{arith}
-use lib.ListN.{length}
-use borrow.Author.Tests.{ltb-true}
-use borrow.Author.Needs.{needs}
+use Rattle.probe.specs.Prelude.{_-_, _^_, arith, length, ltb-true, needs, _≡_, _≤_}
 use Rattle.probe.proofs.run.Statement.{statement}
 use Rattle.probe.proofs.run.Tie as tie
 

@@ -1,8 +1,5 @@
 -- A length of 16 bits is below that of the array.
-use mathlib.Core.Path.{sym}
-use native.Mathlib.Omega.{arith}
-use lib.Seq.{length-take-le}
-use borrow.Author.Needs.{needs}
+use Rattle.probe.specs.Prelude.{arith, length-take-le, needs, sym}
 use Rattle.probe.proofs.called.case.Statement.{statement}
 use Rattle.probe.proofs.called.case.Tie as tie
 

@@ -1,8 +1,5 @@
 -- The loop keeps the list's length.
-use Prim.Native.Nat.{_-_}
-use mathlib.Core.Path.{_≡_}
-use lib.ListN.{length}
-use borrow.Author.Needs.{needs}
+use Rattle.probe.specs.Prelude.{_-_, length, needs, _≡_}
 use Rattle.probe.proofs.called.lend.Statement.{statement}
 use Rattle.probe.proofs.called.lend.Tie as tie
 

@@ -1,6 +1,5 @@
 -- Each arm's number is that of its call; another number is an event's, or none's.
-use borrow.Author.Needs.{needs}
-use borrow.Author.Tests.{ne-eqb}
+use Rattle.probe.specs.Prelude.{ne-eqb, needs}
 use Rattle.probe.proofs.calls.call_numbered.Statement.{statement}
 use Rattle.probe.proofs.calls.call_numbered.Tie as tie
 

@@ -1,8 +1,5 @@
 -- On either side of `writing` the table of kinds says whether the number names one.
-use mathlib.Core.Path.{sym, ap, _∙_}
-use borrow.Author.Needs.{needs}
-use borrow.Author.Tests.{lt-ltb, le-ltb}
-use Rattle.event.specs.Events.{knownOf}
+use Rattle.probe.specs.Prelude.{ap, knownOf, le-ltb, lt-ltb, needs, sym, _∙_}
 use Rattle.probe.specs.Calls.{askedOf, writing}
 use Rattle.probe.specs.declared.calls.Call.the-variants as call
 use Rattle.probe.proofs.calls.event_call_numbered.Statement.{statement}

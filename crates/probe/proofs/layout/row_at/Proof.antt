@@ -1,5 +1,5 @@
 -- Field by field.
-use borrow.Author.Needs.{needs}
+use Rattle.probe.specs.Prelude.{needs}
 use Rattle.probe.proofs.layout.row_at.Statement.{statement}
 use Rattle.probe.proofs.layout.row_at.Tie as tie
 

@@ -1,12 +1,5 @@
 -- The loop keeps that the rows before the present job are those of the bytes.
-use Prim.Native.Nat.{_-_, _≤_}
-use mathlib.Core.Path.{_≡_, refl}
-use native.Mathlib.Omega.{arith}
-use lib.ListN.{length}
-use borrow.Author.Needs.{needs}
-use Rattle.laws.specs.ListLaws.{Filled, filled-more}
-use Rattle.event.specs.Limits.{jobs}
-use Rattle.rows.specs.Order.{idle}
+use Rattle.probe.specs.Prelude.{_-_, Filled, arith, filled-more, idle, jobs, length, needs, refl, _≡_, _≤_}
 use Rattle.probe.specs.Layout.{rowAt}
 use Rattle.probe.proofs.layout.rows_of.Statement.{statement}
 use Rattle.probe.proofs.layout.rows_of.Tie as tie

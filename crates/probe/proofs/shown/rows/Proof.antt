@@ -1,9 +1,5 @@
 -- The loop keeps the room's length, and that no failure is forgotten.
-use Prim.Native.Nat.{_-_, _≤_}
-use mathlib.Core.Path.{_≡_}
-use lib.ListN.{length}
-use borrow.Author.Needs.{needs}
-use Rattle.event.specs.Limits.{jobs}
+use Rattle.probe.specs.Prelude.{_-_, jobs, length, needs, _≡_, _≤_}
 use Rattle.probe.proofs.shown.rows.Statement.{statement}
 use Rattle.probe.proofs.shown.rows.Tie as tie
 
