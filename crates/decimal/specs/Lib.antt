@@ -1,3 +1,4 @@
--- Numbers in decimal.
+-- Text, and numbers in decimal.
+pub mod Determined
 pub mod Text
 pub mod TextLaws
