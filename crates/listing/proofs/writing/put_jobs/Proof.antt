@@ -6,7 +6,7 @@ use lib.ListN.{length, take}
 use Rattle.laws.specs.Front.{Wrote}
 use Rattle.laws.specs.FrontLaws.{then, wrote-length, wrote-none}
 use Rattle.listing.specs.Listing.{items}
-use Rattle.listing.specs.Lengths.{items-more}
+use Rattle.listing.proofs.Items.{items-more}
 use borrow.Author.Needs.{needs}
 use Rattle.listing.proofs.writing.put_jobs.Statement.{statement}
 use Rattle.listing.proofs.writing.put_jobs.Tie as tie

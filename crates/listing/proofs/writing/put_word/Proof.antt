@@ -1,7 +1,7 @@
 -- Each answer's word; only a completion lists jobs.
 use native.Mathlib.Omega.{arith}
 use Rattle.listing.specs.Listing.{items, wordText}
-use Rattle.listing.specs.Promises.{told}
+use Rattle.listing.specs.Inner.{wordFrom}
 use borrow.Author.Needs.{needs}
 use Rattle.listing.proofs.writing.put_word.Statement.{statement}
 use Rattle.listing.proofs.writing.put_word.Tie as tie
@@ -61,42 +61,42 @@ same-length : tie.Need-same-length
 same-length c = search needs
 
 returns : tie.Need-returns
-unfolding told wordText items
+unfolding wordFrom wordText items
 returns c = rw (c .before .before .before .before .before .before .answer .given .1, ← c .before .before .before .before .number .ensures) (c .before .before .put-no .ensures)
 
 same-length-2 : tie.Need-same-length-2
 same-length-2 c = search needs
 
 returns-2 : tie.Need-returns-2
-unfolding told wordText items
+unfolding wordFrom wordText items
 returns-2 c = let w = c .before .before .put .ensures in rw (c .before .before .before .before .before .enum-told .given .1) (w, omega (arith, w .ends))
 
 same-length-3 : tie.Need-same-length-3
 same-length-3 c = search needs
 
 returns-3 : tie.Need-returns-3
-unfolding told wordText items
+unfolding wordFrom wordText items
 returns-3 c = let w = c .before .before .put2 .ensures in rw (c .before .before .before .before .before .enum-told2 .given .1) (w, omega (arith, w .ends))
 
 same-length-4 : tie.Need-same-length-4
 same-length-4 c = search needs
 
 returns-4 : tie.Need-returns-4
-unfolding told wordText items
+unfolding wordFrom wordText items
 returns-4 c = let w = c .before .before .put3 .ensures in rw (c .before .before .before .before .before .enum-told3 .given .1) (w, omega (arith, w .ends))
 
 same-length-5 : tie.Need-same-length-5
 same-length-5 c = search needs
 
 returns-5 : tie.Need-returns-5
-unfolding told wordText items
+unfolding wordFrom wordText items
 returns-5 c = let w = c .before .before .put4 .ensures in rw (c .before .before .before .before .before .enum-told4 .given .1) (w, omega (arith, w .ends))
 
 same-length-6 : tie.Need-same-length-6
 same-length-6 c = search needs
 
 returns-6 : tie.Need-returns-6
-unfolding told wordText items
+unfolding wordFrom wordText items
 returns-6 c = let w = c .before .before .put-ok .ensures in rw (c .before .before .before .before .before .before .answer2 .given .1) (record { room = w .0 .room; ends = w .0 .ends; left = w .0 .left }, omega (arith, w .1))
 
 pub put-word-spec : {M : Type 1} → statement M
