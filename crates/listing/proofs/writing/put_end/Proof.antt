@@ -9,7 +9,9 @@ use Rattle.listing.proofs.writing.put_end.Tie as tie
 
 put-number-requires : tie.Need-put-number-requires
 put-number-requires c κs =
-    omega (arith, length-text 10 (c .before .before .before .live-count .result) (omega arith) (omega arith), c .before .before .before .before .before .before .pre)
+    let live = length-text 10 (c .before .before .before .live-count .result) (omega arith) (omega arith) in
+    let tokens = length-text 10 (c .before .before .tokens-in .result) (omega arith) (omega arith) in
+    omega (arith, c .before .before .before .before .before .before .pre)
 
 put-number-requires-2 : tie.Need-put-number-requires-2
 put-number-requires-2 c κs =
