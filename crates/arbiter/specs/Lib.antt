@@ -1,6 +1,7 @@
 -- What the calls mean: document 01, from "What a table holds" to "Refusal numbers".
 pub mod Answers
 pub mod ByStanding
+pub mod Determined
 pub mod Effects
 pub mod Meaning
 pub mod OwnRow

@@ -1,10 +1,17 @@
--- A number in decimal: its text, as ASCII bytes without leading zeros, and the number that a text stands for.
+-- Text as bytes, in ASCII. A number in decimal: its text, without leading zeros, and the number that a text stands for.
+use Prim.Native.Char.{code}
 use Prim.Native.Nat.{ℕ, zero, suc, _+_, _-_, _/_, _%_, _*_, _^_, _<_, _≤_}
+use Prim.Native.String.{String, [] as end, _∷_ as _then_}
 use mathlib.Core.Bool.{true, false}
 use mathlib.Core.List.{List, [], _∷_, _++_}
 use mathlib.Core.Path.{_≡_}
 use lib.Dec.{ltb}
 use lib.ListN.{length, getD}
+
+-- a text as bytes, in ASCII
+abbrev pub ascii : String → List ℕ
+ascii end = []
+ascii (c then s) = code c ∷ ascii s
 
 -- n's digits in at most depth steps: those of n / 10, then n % 10; n steps are enough, as n / 10 is below n
 unfoldable pub digits : ℕ → ℕ → List ℕ

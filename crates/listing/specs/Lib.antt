@@ -1,8 +1,9 @@
 -- What a replay prints, and what the contracts of this crate say.
+pub mod BlockLaws
 pub mod Blocks
-pub mod Lengths
+pub mod Determined
+pub mod Inner
+pub mod LineLaws
 pub mod Listing
-pub mod Midway
 pub mod Promises
-pub mod Steps
 pub mod Worked

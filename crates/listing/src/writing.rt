@@ -1,13 +1,14 @@
 // Text put into a lent buffer, piece by piece.
 ghost use Prim.Native.Nat.{_+_, _*_, _≤_, min};
-ghost use mathlib.Core.List.{_∷_, _++_};
+ghost use mathlib.Core.List.{_++_};
 ghost use mathlib.Core.Path.{_≡_};
 ghost use lib.ListN.{length, take};
 ghost use Rattle.arbiter.specs.Answers.{saidOf};
-ghost use Rattle.decimal.specs.Text.{text};
+ghost use Rattle.decimal.specs.Text.{ascii, text};
 ghost use Rattle.laws.specs.Front.{Wrote};
+ghost use Rattle.listing.specs.Inner.{wordFrom};
 ghost use Rattle.listing.specs.Listing.{endLine, items, line, no, ok, wordText};
-ghost use Rattle.listing.specs.Promises.{lineRoom, told, wordRoom};
+ghost use Rattle.listing.specs.Promises.{lineRoom, wordRoom};
 use arbiter::Answer;
 use arbiter::Table;
 use decimal::put;
@@ -26,7 +27,7 @@ fn put_number(word: &[u8], n: u64, out: &mut [u8], at: usize) -> usize
 // Puts a job behind a space.
 fn put_job(job: u8, out: &mut [u8], at: usize) -> usize
     requires { ⌜ at + 4 ≤ length (now out) ⌝ }
-    ensures { λ r. ⌜ Wrote (now (out .entry)) at (32 ∷ text job) r (now (out .exit)) ⌝ }
+    ensures { λ r. ⌜ Wrote (now (out .entry)) at (ascii " " ++ text job) r (now (out .exit)) ⌝ }
     ensures { λ r. ⌜ r ≤ at + 4 ⌝ }
 {
     put_number(b" ", job as u64, out, at)
@@ -82,7 +83,7 @@ fn put_no(number: u32, out: &mut [u8], at: usize) -> usize
 // Puts the word for an answer; the jobs it woke stand at the front of a list.
 fn put_word(answer: Answer, woken: &[u8; JOBS], out: &mut [u8], at: usize) -> usize
     requires { ⌜ at + wordRoom ≤ length (now out) ⌝ }
-    ensures { λ r. ⌜ Wrote (now (out .entry)) at (wordText (told (saidOf answer) (now (woken .entry)))) r (now (out .exit)) ⌝ }
+    ensures { λ r. ⌜ Wrote (now (out .entry)) at (wordText (wordFrom (saidOf answer) (now (woken .entry)))) r (now (out .exit)) ⌝ }
     ensures { λ r. ⌜ r ≤ at + wordRoom ⌝ }
 {
     match answer {
@@ -104,7 +105,7 @@ pub(crate) fn put_line(
     at: usize,
 ) -> usize
     requires { ⌜ at + lineRoom ≤ length (now out) ⌝ }
-    ensures { λ r. ⌜ Wrote (now (out .entry)) at (line number (told (saidOf answer) (now (woken .entry)))) r (now (out .exit)) ⌝ }
+    ensures { λ r. ⌜ Wrote (now (out .entry)) at (line number (wordFrom (saidOf answer) (now (woken .entry)))) r (now (out .exit)) ⌝ }
     ensures { λ r. ⌜ r ≤ at + lineRoom ⌝ }
 {
     let word = decimal::write(number, out, at);

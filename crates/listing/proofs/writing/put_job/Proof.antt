@@ -5,15 +5,9 @@ use borrow.Author.Needs.{needs}
 use Rattle.listing.proofs.writing.put_job.Statement.{statement}
 use Rattle.listing.proofs.writing.put_job.Tie as tie
 
-slice-aggregate-put-number : tie.Need-slice-aggregate-put-number
-slice-aggregate-put-number c = search needs
-
 put-number-requires : tie.Need-put-number-requires
 put-number-requires c κs =
     omega (arith, length-text 3 (c .before .before .before .args .job) (omega arith) (omega arith), c .before .before .before .pre)
-
-same-length : tie.Need-same-length
-same-length c = search needs
 
 returns : tie.Need-returns
 returns c =
@@ -22,4 +16,4 @@ returns c =
 
 pub put-job-spec : {M : Type 1} → statement M
 put-job-spec =
-    tie.close (tie.spec slice-aggregate-put-number put-number-requires same-length returns)
+    tie.close (tie.spec (λ c. search needs) put-number-requires (λ c. search needs) returns)

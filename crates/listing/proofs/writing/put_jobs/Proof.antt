@@ -6,7 +6,7 @@ use lib.ListN.{length, take}
 use Rattle.laws.specs.Front.{Wrote}
 use Rattle.laws.specs.FrontLaws.{then, wrote-length, wrote-none}
 use Rattle.listing.specs.Listing.{items}
-use Rattle.listing.specs.Lengths.{items-more}
+use Rattle.listing.proofs.Items.{items-more}
 use borrow.Author.Needs.{needs}
 use Rattle.listing.proofs.writing.put_jobs.Statement.{statement}
 use Rattle.listing.proofs.writing.put_jobs.Tie as tie
@@ -24,19 +24,10 @@ loop-holds c =
     let a = c .before .before .args in
     (omega arith, refl, omega arith, wrote-none (a .out .now) (a .at) (omega arith))
 
-shared-slice-read-put-job : tie.Need-shared-slice-read-put-job Inv-loop μ-loop
-shared-slice-read-put-job c = search needs
-
 put-job-requires : tie.Need-put-job-requires Inv-loop μ-loop
 put-job-requires c κs =
     let at = c .before .before .before .loop in
     omega (arith, c .before .before .before .before .before .before .pre, at .inv)
-
-add-i : tie.Need-add-i Inv-loop μ-loop
-add-i c = search needs
-
-loop-less : tie.Need-loop-less Inv-loop μ-loop
-loop-less c = search needs
 
 loop-again : tie.Need-loop-again Inv-loop μ-loop
 loop-again c =
@@ -48,9 +39,6 @@ loop-again c =
       omega (arith, c .before .before .put-job .ensures .1, at .inv .2),
       rw (items-more (a .jobs .now) (at .i) (omega arith)) (then (at .inv .3) w),
     )
-
-same-length : tie.Need-same-length Inv-loop μ-loop
-same-length c = search needs
 
 returns : tie.Need-returns Inv-loop μ-loop
 returns c =
@@ -66,10 +54,10 @@ put-jobs-spec =
     Inv-loop
     μ-loop
     loop-holds
-    shared-slice-read-put-job
+    (λ c. search needs)
     put-job-requires
-    add-i
-    loop-less
+    (λ c. search needs)
+    (λ c. search needs)
     loop-again
-    same-length
+    (λ c. search needs)
     returns)

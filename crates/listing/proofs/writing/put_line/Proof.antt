@@ -15,17 +15,11 @@ put-word-requires c κs =
     let w = c .before .before .before .write .ensures in
     omega (arith, w .ends, wrote-length w, length-text-u64 (c .before .before .before .before .before .before .args .number) (omega arith), c .before .before .before .before .before .before .pre)
 
-slice-aggregate-put : tie.Need-slice-aggregate-put
-slice-aggregate-put c = search needs
-
 put-requires : tie.Need-put-requires
 put-requires c κs =
     let w = c .before .before .before .before .before .before .before .before .write .ensures in
     let x = c .before .before .before .before .put-word .ensures in
     omega (arith, w .ends, wrote-length w, wrote-length (x .0), x .1, length-text-u64 (c .before .before .before .before .before .before .before .before .before .before .before .args .number) (omega arith), c .before .before .before .before .before .before .before .before .before .before .before .pre)
-
-same-length : tie.Need-same-length
-same-length c = search needs
 
 returns : tie.Need-returns
 unfolding line
@@ -41,7 +35,7 @@ put-line-spec =
     (tie.spec
     write-requires
     put-word-requires
-    slice-aggregate-put
+    (λ c. search needs)
     put-requires
-    same-length
+    (λ c. search needs)
     returns)

@@ -6,15 +6,9 @@ use borrow.Author.Needs.{needs}
 use Rattle.listing.proofs.writing.put_no.Statement.{statement}
 use Rattle.listing.proofs.writing.put_no.Tie as tie
 
-slice-aggregate-put-number : tie.Need-slice-aggregate-put-number
-slice-aggregate-put-number c = search needs
-
 put-number-requires : tie.Need-put-number-requires
 put-number-requires c κs =
     omega (arith, length-text 10 (c .before .before .before .args .number) (omega arith) (omega arith), c .before .before .before .pre)
-
-same-length : tie.Need-same-length
-same-length c = search needs
 
 returns : tie.Need-returns
 unfolding wordText
@@ -24,4 +18,4 @@ returns c =
 
 pub put-no-spec : {M : Type 1} → statement M
 put-no-spec =
-    tie.close (tie.spec slice-aggregate-put-number put-number-requires same-length returns)
+    tie.close (tie.spec (λ c. search needs) put-number-requires (λ c. search needs) returns)

@@ -13,11 +13,8 @@ write-requires c κs =
     let w = c .before .before .before .put .ensures in
     omega (arith, w .ends, wrote-length w, c .before .before .before .before .before .before .before .pre)
 
-same-length : tie.Need-same-length
-same-length c = search needs
-
 returns : tie.Need-returns
 returns c = then (c .before .before .before .before .before .before .put .ensures) (c .before .before .write .ensures)
 
 pub put-number-spec : {M : Type 1} → statement M
-put-number-spec = tie.close (tie.spec put-requires write-requires same-length returns)
+put-number-spec = tie.close (tie.spec put-requires write-requires (λ c. search needs) returns)

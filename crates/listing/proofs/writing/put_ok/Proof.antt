@@ -10,21 +10,6 @@ use borrow.Author.Needs.{needs}
 use Rattle.listing.proofs.writing.put_ok.Statement.{statement}
 use Rattle.listing.proofs.writing.put_ok.Tie as tie
 
-slice-aggregate-put : tie.Need-slice-aggregate-put
-slice-aggregate-put c = search needs
-
-put-requires : tie.Need-put-requires
-put-requires c κs = search needs
-
-at-most-requires : tie.Need-at-most-requires
-at-most-requires c κs = search needs
-
-put-jobs-requires : tie.Need-put-jobs-requires
-put-jobs-requires c κs = search needs
-
-same-length : tie.Need-same-length
-same-length c = search needs
-
 returns : tie.Need-returns
 unfolding wordText
 returns c =
@@ -39,9 +24,9 @@ pub put-ok-spec : {M : Type 1} → statement M
 put-ok-spec =
     tie.close
     (tie.spec
-    slice-aggregate-put
-    put-requires
-    at-most-requires
-    put-jobs-requires
-    same-length
+    (λ c. search needs)
+    (λ c κs. search needs)
+    (λ c κs. search needs)
+    (λ c κs. search needs)
+    (λ c. search needs)
     returns)
