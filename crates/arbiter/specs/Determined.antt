@@ -1,23 +1,11 @@
 -- What is promised determines what is handed back, and what is left in what was lent.
-use Prim.Native.Nat.{ℕ}
-use mathlib.Core.List.{List}
-use mathlib.Core.Path.{_≡_, refl, ap}
-use Rattle.laws.specs.Determined.{determined, told-apart}
-use Rattle.event.specs.Answers.{answerBy}
-use Rattle.event.specs.RefusalLaws.{refusalOf-numberOf}
-use Rattle.event.specs.declared.events.Event.{Event}
-use Rattle.laws.specs.Cases.{Outcome}
+use Rattle.arbiter.specs.Prelude.{Answer, Event, Late, List, Next, Outcome, Reported, Table, answerBy, ap, determined, refl, refusalOf-numberOf, told-apart, ℕ, _≡_}
 use Rattle.arbiter.specs.Answers.{Said, lateOf, reportOf, saidOf, saysDone, saysGranted, saysToken, saysWait, saysWoke}
 use Rattle.arbiter.specs.Effects.{Completes, Does}
-use Rattle.arbiter.specs.Promises.{Answered, AnsweredInto, Reports, Started, ToldLate}
-use Rattle.arbiter.specs.declared.table.Answer.{Answer}
+use Rattle.arbiter.specs.Promises.{Answered, AnsweredInto, ReportAnswered, Started, OverdueAnswered}
 use Rattle.arbiter.specs.declared.table.Answer.the-variants as Answers
-use Rattle.arbiter.specs.declared.table.Late.{Late}
 use Rattle.arbiter.specs.declared.table.Late.the-variants as Lates
-use Rattle.arbiter.specs.declared.table.Next.{Next}
-use Rattle.arbiter.specs.declared.table.Reported.{Reported}
 use Rattle.arbiter.specs.declared.table.Reported.the-variants as Reporteds
-use Rattle.arbiter.specs.declared.table.Table.{Table}
 
 -- ---- What is said tells what was answered
 
@@ -68,12 +56,12 @@ pub started-determined :
     {T R tick limit : ℕ} {r r′ : Next} → Started T R tick limit r → Started T R tick limit r′ → r ≡ r′
 started-determined p q = same-next (p .says) (q .says) (p .hands) (q .hands)
 
-pub report-determined : (t : Table) (j : ℕ) (r r′ : Reported) → Reports t j r → Reports t j r′ → r ≡ r′
+pub report-determined : (t : Table) (j : ℕ) (r r′ : Reported) → ReportAnswered t j r → ReportAnswered t j r′ → r ≡ r′
 report-determined t j r r′ = told-apart reportOf (answerBy Reporteds.No Reporteds.Is) report-said
 
 pub late-determined :
-    {t : Table} {tick : ℕ} {before after after′ : List ℕ} {r r′ : Late} → ToldLate t tick before r after →
-    ToldLate t tick before r′ after′ → (r ≡ r′) × (after ≡ after′)
+    {t : Table} {tick : ℕ} {before after after′ : List ℕ} {r r′ : Late} → OverdueAnswered t tick before r after →
+    OverdueAnswered t tick before r′ after′ → (r ≡ r′) × (after ≡ after′)
 late-determined p q = (told-apart lateOf (answerBy Lates.No Lates.Count) late-said (p .says) (q .says), determined (p .lists) (q .lists))
 
 -- ---- What the functions behind them promise

@@ -14,6 +14,7 @@ pub use Rattle.laws.specs.CaseLaws.{acceptance-tells, clear, leaves-is, leaves-
 pub use Rattle.laws.specs.Cases.{Case, Outcome, ascending, fine, leaves, outcome, positive, refused}
 unfoldable pub use Rattle.laws.specs.Cases.{ascends, case}
 pub use Rattle.laws.specs.Chains.{_and_, none, past, this}
+pub use Rattle.laws.specs.Determined.{determined, told-apart}
 unfoldable pub use Rattle.laws.specs.Front.{over}
 pub use Rattle.laws.specs.HoldLaws.{hold, nth}
 pub use Rattle.laws.specs.ListLaws.{Filled, all-append, all-drop, filled-more}
@@ -24,10 +25,12 @@ pub use Rattle.laws.specs.Reads.{Reads}
 pub use Rattle.laws.specs.ReadsLaws.{reading, reads-not}
 pub use Rattle.laws.specs.SetLaws.{below-reads, empty, inside-reads, meets-reads, some-member}
 pub use Rattle.laws.specs.Sets.{below, inside, meets, member}
+pub use Rattle.event.specs.Answers.{answerBy}
 pub use Rattle.event.specs.Clock.{clockRefusals, goneBack, momentOf, timeSpent}
 unfoldable pub use Rattle.event.specs.Clock.{forward}
 pub use Rattle.event.specs.Events.{about, asked, jobOf, setOf, tickOf}
 pub use Rattle.event.specs.Limits.{highest, jobs}
+pub use Rattle.event.specs.RefusalLaws.{refusalOf-numberOf}
 pub use Rattle.event.specs.Refusals.{casesBy, numberOf, refusing}
 pub use Rattle.event.specs.declared.clock.Moment.{Moment}
 pub use Rattle.event.specs.declared.clock.Tick.{Tick}
@@ -48,6 +51,9 @@ unfoldable pub use Rattle.rows.specs.Sweep.{woken}
 pub use Rattle.rows.specs.declared.row.Row.{Row}
 pub use Rattle.rows.specs.declared.stand.Standing.{Standing}
 pub use Rattle.arbiter.specs.declared.sound.Bounds.{Bounds}
+pub use Rattle.arbiter.specs.declared.table.Answer.{Answer}
+pub use Rattle.arbiter.specs.declared.table.Late.{Late}
 pub use Rattle.arbiter.specs.declared.table.Late.the-variants.{Count, No}
 pub use Rattle.arbiter.specs.declared.table.Next.{Next}
+pub use Rattle.arbiter.specs.declared.table.Reported.{Reported}
 pub use Rattle.arbiter.specs.declared.table.Table.{Table}

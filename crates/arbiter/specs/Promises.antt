@@ -27,10 +27,10 @@ pub record Started (T R tick limit : ℕ) (r : Next) : Type 0 where
   pub hands : r .table ≡ startTable T R tick limit
 
 -- r is what is told of the request of job j
-abbrev pub Reports : Table → ℕ → Reported → Type 0
-Reports t j r = reportOf r ≡ report t j
+abbrev pub ReportAnswered : Table → ℕ → Reported → Type 0
+ReportAnswered t j r = reportOf r ≡ report t j
 
 -- r is how many jobs are overdue at a tick, with the lent list before and after
-pub record ToldLate (t : Table) (tick : ℕ) (before : List ℕ) (r : Late) (after : List ℕ) : Type 0 where
+pub record OverdueAnswered (t : Table) (tick : ℕ) (before : List ℕ) (r : Late) (after : List ℕ) : Type 0 where
   pub says : lateOf r ≡ overdue (length before) t tick
   pub lists : after ≡ overdueList t tick before

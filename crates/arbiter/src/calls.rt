@@ -1,7 +1,7 @@
 // The calls: start, the five events and the two questions. An event takes the table by value and returns the next.
 ghost use Rattle.event.specs.declared.events.Event.the-variants.{Ask, Beat, Complete, Open, Release};
 ghost use Rattle.event.specs.Limits.{jobs};
-ghost use Rattle.arbiter.specs.Promises.{Answered, AnsweredInto, Reports, Started, ToldLate};
+ghost use Rattle.arbiter.specs.Promises.{Answered, AnsweredInto, ReportAnswered, Started, OverdueAnswered};
 ghost use Rattle.arbiter.specs.Effects.{Refuses};
 use crate::effect::asked;
 use crate::effect::completed;
@@ -163,7 +163,7 @@ impl Table {
 
     // What is told of a job's request; nothing changes.
     pub fn report(self, job: u32) -> Reported
-        ensures { λ r. ⌜ Reports self job r ⌝ }
+        ensures { λ r. ⌜ ReportAnswered self job r ⌝ }
     {
         let rows = self.rows;
         let known = survey(rows);
@@ -182,7 +182,7 @@ impl Table {
 
     // The jobs whose wait is the limit or more, written to the lent list in order of turn; no clock moves.
     pub fn overdue(self, tick: Tick, late: &mut [u8]) -> Late
-        ensures { λ r. ⌜ ToldLate self (tick .0) (now (late .entry)) r (now (late .exit)) ⌝ }
+        ensures { λ r. ⌜ OverdueAnswered self (tick .0) (now (late .entry)) r (now (late .exit)) ⌝ }
     {
         if late.len() < JOBS {
             return Late::No(Refusal::ShortList);

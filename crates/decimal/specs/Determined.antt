@@ -1,8 +1,5 @@
 -- What is promised determines what is handed back, and what is left in what was lent.
-use Prim.Native.Nat.{ℕ}
-use mathlib.Core.List.{List}
-use mathlib.Core.Path.{_≡_, sym, _∙_}
-use Rattle.laws.specs.Front.{Wrote}
+use Rattle.decimal.specs.Prelude.{List, Wrote, sym, ℕ, _∙_, _≡_}
 
 pub text-determined :
     {before text after after′ : List ℕ} {k end end′ : ℕ} → Wrote before k text end after → Wrote before k text end′ after′ →

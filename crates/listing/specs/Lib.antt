@@ -5,5 +5,6 @@ pub mod Determined
 pub mod Inner
 pub mod LineLaws
 pub mod Listing
+pub mod Prelude
 pub mod Promises
 pub mod Worked

@@ -1,7 +1,7 @@
 -- Every accepted event leaves a sound table.
 use Rattle.promises.specs.Prelude.{_+_, _-_, _<_, Ask, Beat, Bool, Complete, List, Open, Release, Row, Table, Tick, _^_, accepted, ahead, ahead-set, ap, arith, askedRow, at-set, below, case, cond, decLe, distinct-rows, distinct-set, distinct-settled, distinct-test, eqb-false, false, idle, in-way-empty, in-way-inside, in-way-set, inside, inside-empty, inside-trans, le-refl, length, live-within, lt-irrefl, lt-ltb, ltb-false, meets, meets-comm, meets-empty, meets-inside, moved, not-false, openedRow, refl, releasedRow, row-settled, rowIn, set, set-out, settled, swept-idle, sweptRow, sym, timeAt, token, true, waiting, waiting-reads, without, without-inside, without-le, ℕ, _∙_, _≡_, _≢_, _≤_}
 use Rattle.event.specs.declared.events.Event.{Event}
-use Rattle.promises.specs.Kept.Words.{Accepts, Acts, Asked, Decided, Swept, grants, waits, Alike, Clearer, Onward}
+use Rattle.promises.specs.Kept.Words.{Accepts, Acts, Asked, Decided, Swept, grants, waits, Alike, Clearer, NoEarlier}
 use Rattle.promises.specs.Kept.Accepted.{acts, open-idle, passed, was-sound}
 use Rattle.promises.specs.Kept.Decisions.{asks, sweeps}
 use Rattle.promises.specs.Kept.Rows.{alike-clearer, alike-kept, alike-opened, alike-self, alike-settled, carried, decided, decided-alike}
@@ -11,7 +11,7 @@ use Rattle.promises.specs.Sound.Tests.{idle-sound}
 -- ---- What the five events leave
 
 module _ (t : Table) (tick : Tick) (p : SoundTable t) (in-time : timeAt t (tick .0) ≤ 2 ^ 63 - 1) where
-  onward : (last : ℕ) (rows : List Row) → t .last .0 ≤ last → Onward t (moved t (timeAt t (tick .0)) last rows)
+  onward : (last : ℕ) (rows : List Row) → t .last .0 ≤ last → NoEarlier t (moved t (timeAt t (tick .0)) last rows)
   onward last rows up = record { tokens = refl; resources = refl; time = omega arith; last = up }
 
   -- the rows are left as they are

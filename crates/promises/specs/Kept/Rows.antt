@@ -1,6 +1,6 @@
 -- When a row stays sound, though the table around it moves on.
 use Rattle.promises.specs.Prelude.{_&&_, _<_, Bool, List, Row, Table, ahead, ahead-set, ahead-settled, ap, arith, bit, claims, decLe, earlier, false, idle, in-way-set, in-way-settled, in-way-union, inside, inside-empty, inside-union, le-of-eq, length, live, ltb, meets, meets-empty, not, not-earlier, refl, rowOf, set, set-out, settled, sym, true, union-self, waiting, _||_, ℕ, _∙_, _≡_, _≤_}
-use Rattle.promises.specs.Kept.Words.{Decided, grants, waits, Alike, Onward, Clearer}
+use Rattle.promises.specs.Kept.Words.{Decided, grants, waits, Alike, NoEarlier, Clearer}
 use Rattle.promises.specs.Sound.Words.{LiveRow}
 
 pub alike-self : {rows : List Row} {n : ℕ} → Alike rows rows n
@@ -51,7 +51,7 @@ decided-alike {s} a (grants way h e) = grants (omega (arith, a .same-way s, way)
 decided-alike {s} a (waits way h e) = waits (omega (arith, a .same-way s, way)) h e
 
 -- a row that is left as it is stays sound where its turn looks on alike rows
-pub carried : {t u : Table} {r : Row} → Onward t u → Alike (t .rows) (u .rows) (r .turn .0) → LiveRow t r → LiveRow u r
+pub carried : {t u : Table} {r : Row} → NoEarlier t u → Alike (t .rows) (u .rows) (r .turn .0) → LiveRow t r → LiveRow u r
 carried {t} {u} {r} o a p = record {
   given = omega arith;
   declares = p .declares;
@@ -72,7 +72,7 @@ alike-clearer a = record { less-ahead = le-of-eq (sym (a .same-ahead)); less-way
 
 -- what Q3 decides on a set s leaves a row sound, if s is declared, apart from what is held, and empty without a token
 pub decided :
-    {t u : Table} {r r′ : Row} {s : ℕ} → Onward t u → Clearer (t .rows) (u .rows) (r .turn .0) → LiveRow t r →
+    {t u : Table} {r r′ : Row} {s : ℕ} → NoEarlier t u → Clearer (t .rows) (u .rows) (r .turn .0) → LiveRow t r →
     r′ .turn .0 ≡ r .turn .0 → r′ .declared ≡ r .declared → inside s (r .declared) ≡ true → meets (r .held) s ≡ false →
     (u .tokens ≤ ahead (u .rows) (r .turn .0) → s ≡ 0) → r′ .since ≤ u .time →
     (ahead (u .rows) (r′ .turn .0) < u .tokens → r′ .asked ≡ 0 → r′ .since ≡ 0) →

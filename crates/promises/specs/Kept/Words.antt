@@ -65,7 +65,7 @@ pub record Alike (rows rows′ : List Row) (n : ℕ) : Type 0 where
   pub same-way : (x : ℕ) → inWay rows n x ≡ inWay rows′ n x
 
 -- u has the numbers of t, and is no earlier
-pub record Onward (t u : Table) : Type 0 where
+pub record NoEarlier (t u : Table) : Type 0 where
   pub tokens : t .tokens ≡ u .tokens
   pub resources : t .resources ≡ u .resources
   pub time : t .time ≤ u .time

@@ -8,7 +8,7 @@ use Rattle.promises.specs.Kept.Soundness.{next-sound}
 use Rattle.promises.specs.Kept.Words.{Accepts}
 use Rattle.promises.specs.Kept.Accepted.{next-accepted, open-idle}
 use Rattle.promises.specs.Sound.Words.{seen}
-use Rattle.promises.specs.UpTo.Statement.{Agree, SameUpTo, ToldAlike, butNumber, ofThem, upTo, TakenAlike, isOfThem}
+use Rattle.promises.specs.UpTo.Statement.{Agree, SameUpTo, ReportedAlike, butNumber, ofThem, upTo, TakenAlike, isOfThem}
 use Rattle.promises.specs.UpTo.Events.{listed-woken, others, refused-stays}
 use Rattle.promises.specs.UpTo.Line.{late-up-to}
 use Rattle.promises.specs.UpTo.Rows.{set-up-to, settled-up-to}
@@ -132,7 +132,7 @@ module _ {T n : ℕ} {t u : Table} (along-t : Along T n t) (along-u : Along T n 
 
 -- and what they are told when they ask
 pub up-to-tells :
-    {n : ℕ} {t u : Table} → sound t ≡ true → sound u ≡ true → Agree n t u → ToldAlike n t u
+    {n : ℕ} {t u : Table} → sound t ≡ true → sound u ≡ true → Agree n t u → ReportedAlike n t u
 unfolding lateAt
 up-to-tells {n} {t} {u} sound-t sound-u a =
     record {

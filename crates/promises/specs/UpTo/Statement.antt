@@ -62,7 +62,7 @@ pub record SameUpTo (n : ℕ) (t u : Table) (e : Event) : Type 0 where
   pub others : ofThem n t e ≡ false → upTo n (next jobs t e .rows) ≡ upTo n (t .rows)
 
 -- the two questions on two such tables: a report of one of them, and who of them is overdue
-pub record ToldAlike (n : ℕ) (t u : Table) : Type 0 where
+pub record ReportedAlike (n : ℕ) (t u : Table) : Type 0 where
   pub reported : (j : ℕ) → isOfThem n t j ≡ true → report t j ≡ report u j
   pub overdue : (tick : ℕ) → keep (isOfThem n t) (late t tick) ≡ keep (isOfThem n u) (late u tick)
 

@@ -1,9 +1,6 @@
 -- The live requests, the tokens in use and the line's end.
-use native.Mathlib.Omega.{arith}
-use Rattle.decimal.specs.TextLaws.{length-text}
-use Rattle.laws.specs.FrontLaws.{then, wrote-length}
+use Rattle.listing.specs.Prelude.{arith, length-text, needs, then, wrote-length}
 use Rattle.listing.specs.Listing.{endLine}
-use borrow.Author.Needs.{needs}
 use Rattle.listing.proofs.writing.put_end.Statement.{statement}
 use Rattle.listing.proofs.writing.put_end.Tie as tie
 

@@ -1,7 +1,5 @@
 -- A space and at most three digits.
-use native.Mathlib.Omega.{arith}
-use Rattle.decimal.specs.TextLaws.{length-text}
-use borrow.Author.Needs.{needs}
+use Rattle.listing.specs.Prelude.{arith, length-text, needs}
 use Rattle.listing.proofs.writing.put_job.Statement.{statement}
 use Rattle.listing.proofs.writing.put_job.Tie as tie
 

@@ -1,13 +1,7 @@
 -- The loop keeps: the jobs before place i are written, and each took at most four bytes.
-use Prim.Native.Nat.{ℕ, _+_, _-_, _*_, _≤_}
-use mathlib.Core.Path.{_≡_, refl, subst, _∙_}
-use native.Mathlib.Omega.{arith}
-use lib.ListN.{length, take}
-use Rattle.laws.specs.Front.{Wrote}
-use Rattle.laws.specs.FrontLaws.{then, wrote-length, wrote-none}
+use Rattle.listing.specs.Prelude.{_*_, _+_, _-_, Wrote, arith, length, needs, refl, subst, take, then, wrote-length, wrote-none, ℕ, _∙_, _≡_, _≤_}
 use Rattle.listing.specs.Listing.{items}
 use Rattle.listing.proofs.Items.{items-more}
-use borrow.Author.Needs.{needs}
 use Rattle.listing.proofs.writing.put_jobs.Statement.{statement}
 use Rattle.listing.proofs.writing.put_jobs.Tie as tie
 

@@ -1,8 +1,6 @@
 -- The word and at most ten digits.
-use native.Mathlib.Omega.{arith}
-use Rattle.decimal.specs.TextLaws.{length-text}
+use Rattle.listing.specs.Prelude.{arith, length-text, needs}
 use Rattle.listing.specs.Listing.{wordText}
-use borrow.Author.Needs.{needs}
 use Rattle.listing.proofs.writing.put_no.Statement.{statement}
 use Rattle.listing.proofs.writing.put_no.Tie as tie
 

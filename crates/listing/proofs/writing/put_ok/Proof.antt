@@ -1,12 +1,6 @@
 -- The word and the jobs behind it.
-use Prim.Native.Nat.{ℕ}
-use mathlib.Core.Path.{ap, _∙_}
-use native.Mathlib.Omega.{arith}
-use lib.ListN.{take}
-use Rattle.laws.specs.FrontLaws.{then}
+use Rattle.listing.specs.Prelude.{ap, arith, needs, take, take-min, then, ℕ, _∙_}
 use Rattle.listing.specs.Listing.{wordText}
-use Rattle.record.specs.RecordingLaws.{take-min}
-use borrow.Author.Needs.{needs}
 use Rattle.listing.proofs.writing.put_ok.Statement.{statement}
 use Rattle.listing.proofs.writing.put_ok.Tie as tie
 

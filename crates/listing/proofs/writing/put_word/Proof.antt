@@ -1,8 +1,7 @@
 -- Each answer's word; only a completion lists jobs.
-use native.Mathlib.Omega.{arith}
+use Rattle.listing.specs.Prelude.{arith, needs}
 use Rattle.listing.specs.Listing.{items, wordText}
 use Rattle.listing.specs.Inner.{wordFrom}
-use borrow.Author.Needs.{needs}
 use Rattle.listing.proofs.writing.put_word.Statement.{statement}
 use Rattle.listing.proofs.writing.put_word.Tie as tie
 

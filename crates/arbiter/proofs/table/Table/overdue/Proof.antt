@@ -2,7 +2,7 @@
 use Rattle.arbiter.specs.Prelude.{Count, List, Listed, No, Refusal, Table, acceptance-tells, ap, fine, le-ltb, leaves, length, lt-ltb, needs, numberOf, outcome, outcome-is, outcome-past, over, refusal-tells, refused, sym, this, ℕ, _∙_, _≡_}
 use Rattle.arbiter.proofs.Verdicts.{judged}
 use Rattle.arbiter.specs.Meaning.{late, lateAt, overdue, overdueList, timeAt}
-use Rattle.arbiter.specs.Promises.{ToldLate}
+use Rattle.arbiter.specs.Promises.{OverdueAnswered}
 use Rattle.arbiter.specs.Refusals.{overdueCases}
 use Rattle.arbiter.proofs.table.Table.overdue.Statement.{statement}
 use Rattle.arbiter.proofs.table.Table.overdue.Tie as tie
@@ -10,7 +10,7 @@ use Rattle.arbiter.proofs.table.Table.overdue.Tie as tie
 module _ (t : Table) (tick : ℕ) (before : List ℕ) where
   refused-late :
       (refusal : Refusal) → refused (numberOf refusal) ≡ outcome (overdueCases (length before) t tick) (timeAt t tick) →
-      ToldLate t tick before (No refusal) before
+      OverdueAnswered t tick before (No refusal) before
   unfolding overdue overdueList
   refused-late refusal v =
       let told = refusal-tells (overdueCases (length before) t tick) (timeAt t tick) (numberOf refusal) (sym v) in
@@ -22,7 +22,7 @@ module _ (t : Table) (tick : ℕ) (before : List ℕ) where
 
   accepted-late :
       (after : List ℕ) (n x : ℕ) → fine x ≡ outcome (overdueCases (length before) t tick) (timeAt t tick) →
-      Listed (lateAt t x) before n after → ToldLate t tick before (Count n) after
+      Listed (lateAt t x) before n after → OverdueAnswered t tick before (Count n) after
   unfolding overdue overdueList
   accepted-late after n x v p =
       let same : lateAt t x ≡ late t tick =
