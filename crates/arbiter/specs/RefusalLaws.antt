@@ -1,16 +1,16 @@
 -- The numbers of each call's cases ascend, so the first that applies is the lowest.
-use Rattle.arbiter.specs.Prelude.{Ask, Beat, Complete, Event, Open, Release, Table, ascending, ascends, refl, true, ℕ, _≡_}
-use Rattle.arbiter.specs.Refusals.{cases, startCases, reportCases, overdueCases}
+use Rattle.arbiter.specs.Prelude.{_++_, Event, Table, [], all, ascending, ascends, asked, casesBy, cond, described, every-kind, jobOf, kindOf, refl, setOf, tickOf, true, ℕ, _≡_}
+use Rattle.arbiter.specs.Refusals.{cases, startCases, reportCases, overdueCases, applies, calling, listCases}
 
--- ---- Laws: the numbers of each call's cases ascend, so the first that applies is the lowest
-
+-- tried on each kind, by computing
 pub cases-ascend : (n : ℕ) (t : Table) (e : Event) → ascending (cases n t e) ≡ true
-unfolding ascends
-cases-ascend n t (Beat tick) = refl
-cases-ascend n t (Open j tick s) = refl
-cases-ascend n t (Ask j tick s) = refl
-cases-ascend n t (Release j tick s) = refl
-cases-ascend n t (Complete j tick) = refl
+unfolding all ascends
+cases-ascend n t e =
+    let c = calling (jobOf e) (tickOf e) (setOf e) in
+    every-kind
+    (λ k. ascending (cond (described k .wakes) (listCases n) [] ++ casesBy (applies t c) (asked (described k))))
+    refl
+    (kindOf e)
 
 pub start-ascends : (T R limit : ℕ) → ascending (startCases T R limit) ≡ true
 unfolding ascends

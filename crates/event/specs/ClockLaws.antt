@@ -1,5 +1,6 @@
 -- True time is real time, wraps and all.
-use Rattle.event.specs.Prelude.{_%_, _+_, _-_, _<_, List, _^_, acceptance-tells, ap, arith, fine, le-ltb, lt-leb, map, none, outcome-is, past, refl, sym, ℕ, _∙_, _∷_, _≡_, _≤_}
+use Rattle.event.specs.Prelude.{_%_, _+_, _-_, _<_, List, _^_, acceptance-tells, ap, arith, fine, le-ltb, lt-leb, map, outcome-is, past, refl, sym, ℕ, _∙_, _∷_, _≡_, _≤_}
+use Rattle.laws.specs.Chains.{none}
 use Rattle.event.specs.Limits.{highest}
 use Rattle.event.specs.Clock.{difference, clockCases, forward, forwards, Often, ended, then}
 

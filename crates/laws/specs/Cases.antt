@@ -4,8 +4,6 @@ use mathlib.Core.Bool.{Bool, true, false, cond, _&&_}
 use mathlib.Core.List.{List, [], _∷_}
 use lib.Dec.{ltb, eqb}
 
--- ---- Definitions
-
 -- a case: its number, and whether it applies
 pub record Case : Type 0 where
   pub number : ℕ

@@ -4,8 +4,6 @@ use mathlib.Core.Bool.{Bool}
 use lib.Bits.{bitAnd, bitOr}
 use lib.Dec.{eqb, ltb}
 
--- ---- Definitions
-
 -- a is a member: its bit is 1
 unfoldable pub member : ℕ → ℕ → Bool
 member s a = eqb (s / 2 ^ a % 2) 1

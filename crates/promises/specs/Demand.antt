@@ -1,3 +1,4 @@
+-- Demand 3 of document 00: its statement, its proof, and one history in figures.
 pub mod Example
 pub mod Holds
 pub mod Others

@@ -1,3 +1,4 @@
+-- What holds along whole histories of events.
 pub mod Count
 pub mod Events
 pub mod Row

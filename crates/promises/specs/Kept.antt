@@ -1,3 +1,4 @@
+-- What an accepted event does, and that soundness is kept.
 pub mod Accepted
 pub mod Changes
 pub mod Decisions

@@ -43,9 +43,9 @@ unfoldable pub use Rattle.rows.specs.Line.{from, keep, lined, place}
 pub use Rattle.rows.specs.Line.{line, rowOf}
 pub use Rattle.rows.specs.LineLaws.{each-head, each-tail}
 unfoldable pub use Rattle.rows.specs.Order.{ahead, distinct, inWay}
-pub use Rattle.rows.specs.Order.{bears, blocked, claims, earlier, idle, live, openingOf, token, waiting}
+pub use Rattle.rows.specs.Order.{bears, blocked, claims, earlier, idle, live, token, waiting}
+pub use Rattle.rows.specs.Propositions.{openingOf, Each, InTheWay}
 pub use Rattle.rows.specs.OrderLaws.{ahead-set, in-way-set}
-pub use Rattle.rows.specs.Propositions.{Each, InTheWay}
 unfoldable pub use Rattle.rows.specs.Propositions.{InTurn}
 pub use Rattle.rows.specs.Sweep.{grantedRow, restedRow, sweptRow, woke}
 unfoldable pub use Rattle.rows.specs.Sweep.{settled, woken}

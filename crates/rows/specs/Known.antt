@@ -7,8 +7,6 @@ use Rattle.rows.specs.Order.{live}
 use Rattle.rows.specs.declared.row.Row.{Row}
 use Rattle.rows.specs.declared.stand.Standing.{Standing}
 
--- ---- Definitions
-
 -- the turn holds one of T tokens
 abbrev pub tokenBy : ℕ → Standing → Bool
 tokenBy T s = ltb (s .ahead) T

@@ -54,7 +54,3 @@ alone rows r = not (live r) || eqb (count (bears (r .turn .0)) rows) 1
 -- no two live rows share a turn
 unfoldable pub distinct : List Row → Bool
 distinct rows = all (alone rows) rows
-
--- what a row was opened with, which is all that the order looks at: its turn and its declared set
-abbrev pub openingOf : Row → Row
-openingOf r = record { turn = r .turn; declared = r .declared; held = 0; asked = 0; since = 0 }

@@ -4,7 +4,8 @@ use mathlib.Core.Path.{_≡_}
 use Rattle.event.specs.declared.events.Event.{Event}
 use Rattle.laws.specs.Cases.{first, refused}
 use Rattle.event.specs.Limits.{jobs}
-use Rattle.rows.specs.Order.{ahead, idle, inWay, openingOf, waiting}
+use Rattle.rows.specs.Order.{ahead, idle, inWay, waiting}
+use Rattle.rows.specs.Propositions.{openingOf}
 use Rattle.arbiter.specs.Refusals.{cases}
 use Rattle.arbiter.specs.declared.table.Table.{Table}
 use Rattle.arbiter.specs.Sound.{rowIn}

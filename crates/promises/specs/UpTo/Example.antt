@@ -1,4 +1,4 @@
--- With and without a latecomer: in the history of DemandExample job 7 opens, or only the clock moves. What jobs 1 to 6 live
+-- With and without a latecomer: in the history of Demand/Example job 7 opens, or only the clock moves. What jobs 1 to 6 live
 -- through is the same from then on.
 use Rattle.promises.specs.Prelude.{Beat, Table, ahead, all, arith, below, count, course, distinct, first, inWay, inside, jobs, leaves, meet, meets, next, refl, sound, startTable, true, _≡_}
 use Rattle.event.specs.declared.events.Event.{Event}

@@ -1,5 +1,5 @@
 -- What requests of turns up to n live through depends on the rows of turns up to n, and on no others. `up-to-decides`
--- and `up-to-tells` (Holds) say so, as `SameUpTo` of any event and as `ToldAlike`, of two sound tables that `Agree`;
+-- and `up-to-tells` (Holds) say so, as `SameUpTo` of any event and as `ReportedAlike`, of two sound tables that `Agree`;
 -- each has a row for each job and has given turn n.
 use Prim.Native.Nat.{ℕ, _+_}
 use mathlib.Core.Bool.{Bool, true, false, _&&_}

@@ -1,5 +1,6 @@
 -- The two tests are the two cases, in their order; what passes both is the sum.
-use Rattle.event.specs.Prelude.{_+_, arith, le-leb, le-ltb, lt-leb, lt-ltb, needs, none, outcome-is, past, this}
+use Rattle.event.specs.Prelude.{_+_, arith, le-leb, le-ltb, lt-leb, lt-ltb, needs, outcome-is, past, this}
+use Rattle.laws.specs.Chains.{none}
 use Rattle.event.specs.Clock.{difference, forward}
 use Rattle.event.specs.Limits.{highest}
 use Rattle.event.proofs.clock.forward.Statement.{statement}
