@@ -7,8 +7,6 @@ use Rattle.rows.specs.SweepLaws.{ahead-settled, distinct-settled, grante
 use Rattle.rows.specs.Sweep.{grantedRow, restedRow, settled, sweptRow, woke}
 use Rattle.rows.specs.Known.{tokenBy, waitingBy, grantedBy, restedBy, sweptBy, wokeBy}
 
--- ---- Laws: they are the decisions from the rows
-
 module _ (T : ℕ) (rows : List Row) (s : Standing) where
   pub token-by : (n : ℕ) → Stands rows n s → tokenBy T s ≡ token T rows n
   token-by n stands = rw (stands .before)

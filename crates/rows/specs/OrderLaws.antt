@@ -3,8 +3,6 @@ use Rattle.rows.specs.Prelude.{_+_, _<_, Bool, List, Row, all, all-map, 
 use Rattle.rows.specs.Order.{idle, live, earlier, ahead, claims, inWay, bears, alone, distinct}
 use Rattle.rows.specs.Propositions.{openingOf}
 
--- ---- Laws
-
 -- when one row is set
 module _ (rows : List Row) (j : ℕ) (x : Row) (below : j < length rows) (n : ℕ) where
   pub ahead-set : ahead (set rows j x) n + bit (earlier n (getD rows j idle)) ≡ ahead rows n + bit (earlier n x)

@@ -6,8 +6,6 @@ use Rattle.rows.specs.Propositions.{openingOf}
 use Rattle.rows.specs.OrderLaws.{ahead-map, distinct-map, in-way-map}
 use Rattle.rows.specs.Sweep.{grantedRow, restedRow, sweptRow, settled}
 
--- ---- Laws
-
 -- the sweep changes no turn and no declared set
 pub granted-keeps : (rows : List Row) (r : Row) → openingOf (grantedRow rows r) ≡ openingOf r
 granted-keeps rows r = either openingOf (blocked rows (r .turn .0) (r .asked)) r _ refl
