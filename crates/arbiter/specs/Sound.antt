@@ -60,13 +60,15 @@ askedDeclared r = inside (r .asked) (r .declared)
 abbrev pub heldNotAsked : Row → Bool
 heldNotAsked r = not (meets (r .held) (r .asked))
 
--- it has a token, and Q3 forbids it a set, and it waits, all by the rows of the table
+-- it has a token
 abbrev pub tokenOf : Table → Row → Bool
 tokenOf t r = token (t .tokens) (t .rows) (r .turn .0)
 
+-- Q3 forbids it the set s
 abbrev pub blockedIn : Table → Row → ℕ → Bool
 blockedIn t r s = blocked (t .rows) (r .turn .0) s
 
+-- it waits: it has no token, or asks for something
 abbrev pub waitingIn : Table → Row → Bool
 waitingIn t r = waiting (t .tokens) (t .rows) r
 

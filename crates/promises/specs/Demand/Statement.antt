@@ -57,20 +57,23 @@ pub record Unmoved (a : Arbiter) (n : ℕ) (t : Table) (e : Event) : Type 0 wher
 
 -- an arbiter; a start with T tokens, R resources, a tick and a limit; any events; an opening by job j; any events since
 module _ (a : Arbiter) (T R begin limit : ℕ) (past : List Event) (j : ℕ) (tick : Tick) (s : ℕ) (later : List Event) where
-  -- the table when the request is opened, right after that, and now
+  -- the table when the request is opened
   abbrev pub before : Table
   before = course (a .next) (startTable T R begin limit) past
 
+  -- right after that
   abbrev pub afterOpening : Table
   afterOpening = a .next before (Open j tick s)
 
+  -- now
   abbrev pub now : Table
   now = course (a .next) afterOpening later
 
-  -- the request's turn, and how many other live ones it is opened behind
+  -- the request's turn
   abbrev pub n : ℕ
   n = before .last .0 + 1
 
+  -- how many other live ones it is opened behind
   abbrev pub p : ℕ
   p = count live (before .rows)
 

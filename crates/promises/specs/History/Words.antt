@@ -55,16 +55,19 @@ unfoldable pub heededBy : Arbiter → Table → List Event → List Event
 heededBy a t [] = []
 heededBy a t (e ∷ es) = cond (takes a t e) (e ∷ heededBy a (a .next t e) es) (heededBy a (a .next t e) es)
 
--- the same of ours
+-- an event is accepted by ours
 abbrev pub taken : Table → Event → Bool
 taken = takes ours
 
+-- how many leave by an event of ours
 abbrev pub leaving : (Row → Bool) → Table → Event → ℕ
 leaving = leavingOf ours
 
+-- and over a sequence of events
 abbrev pub leavings : (Row → Bool) → Table → List Event → ℕ
 leavings = leavingsOf ours
 
+-- the events that ours accepts
 abbrev pub heeded : Table → List Event → List Event
 heeded = heededBy ours
 

@@ -2,7 +2,7 @@
 use Rattle.promises.specs.Prelude.{_&&_, _+_, _<_, Ask, Beat, Bool, Complete, List, Open, Release, Row, Table, about, accepted, ahead, and-not-self, and-true, ap, arith, blocked, claims, cond, count, decLe, earlier, either, eq-eqb, false, getD-set-other, getD-set-same, gone, gone-balance, gone-none, hasJob, idle, inWay, jobOf, length, length-set, length-settled, live, live-within, ltb, meets, not, not-earlier, openedRow, openingOf, refl, row-settled, rowAfter, rowIn, rowOf, set, set-out, settled, subst, swept-idle, swept-keeps, sym, tickOf, timeAt, true, true≢false, ℕ, ℕ-discrete, _∙_, _≡_, _≤_}
 use Rattle.event.specs.declared.events.Event.{Event}
 use Rattle.promises.specs.Kept.Accepted.{acts, open-idle}
-use Rattle.promises.specs.Kept.Words.{Accepts, Acts, Alike, ByOpening, Change, Lower, began, ended, kept}
+use Rattle.promises.specs.Kept.Words.{Accepts, Acts, Alike, ByOpening, Change, Lower, began, ended, kept, ends}
 
 -- ---- What becomes of a row
 
@@ -60,12 +60,6 @@ module _ (n : ℕ) (t : Table) where
           ∙ ap openingOf (other j k idle q))
 
 -- ---- Who leaves, and how many stay
-
--- the change is the end of a request
-abbrev pub ends : {t : Table} {e : Event} {k : ℕ} → Change t e k → Bool
-ends (kept _) = false
-ends (ended _ _ _ _) = true
-ends (began _ _ _) = false
 
 module _ {f : Row → Bool} (opening : ByOpening f) (t : Table) (e : Event) (k : ℕ) where
   -- a row that keeps what it was opened with passes after if it passed before

@@ -17,6 +17,7 @@ use Rattle.rows.specs.Sweep.{sweptRow}
 use Rattle.arbiter.specs.Meaning.{accepted, answer, overdue, report}
 use Rattle.event.specs.Events.{about, names}
 use mathlib.Core.Logic.{_≢_}
+use Rattle.promises.specs.Prelude.{_+_, _<_, Bool, List, Row, Table, about, accepted, ahead, false, idle, inWay, openingOf, rowIn, true, ℕ, _≡_, _≤_}
 
 -- no case refuses the event
 abbrev pub Accepts : ℕ → Table → Event → Type 0
@@ -115,3 +116,11 @@ pub record ByOpening (f : Row → Bool) : Type 0 where
 pub record Lower (n : ℕ) (f : Row → Bool) : Type 0 where
   pub opening : ByOpening f
   pub late-fails : (r : Row) → n ≤ r .turn .0 → f r ≡ false
+
+-- ---- Who leaves, and how many stay
+
+-- the change is the end of a request
+abbrev pub ends : {t : Table} {e : Event} {k : ℕ} → Change t e k → Bool
+ends (kept _) = false
+ends (ended _ _ _ _) = true
+ends (began _ _ _) = false
