@@ -29,7 +29,7 @@ pub use Rattle.event.specs.Answers.{answerBy}
 pub use Rattle.event.specs.Clock.{clockRefusals, goneBack, momentOf, timeSpent}
 unfoldable pub use Rattle.event.specs.Clock.{forward}
 pub use Rattle.event.specs.EventLaws.{every-kind}
-pub use Rattle.event.specs.Events.{about, asked, described, jobOf, kindOf, setOf, tickOf}
+pub use Rattle.event.specs.Events.{about, refusalsOf, described, jobOf, kindOf, setOf, tickOf}
 pub use Rattle.event.specs.Limits.{highest, jobs}
 pub use Rattle.event.specs.RefusalLaws.{refusalOf-numberOf}
 pub use Rattle.event.specs.Refusals.{casesBy, numberOf, refusing}

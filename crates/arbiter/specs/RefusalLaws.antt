@@ -1,5 +1,5 @@
 -- The numbers of each call's cases ascend, so the first that applies is the lowest.
-use Rattle.arbiter.specs.Prelude.{_++_, Event, Table, [], all, ascending, ascends, asked, casesBy, cond, described, every-kind, jobOf, kindOf, refl, setOf, tickOf, true, ℕ, _≡_}
+use Rattle.arbiter.specs.Prelude.{_++_, Event, Table, [], all, ascending, ascends, refusalsOf, casesBy, cond, described, every-kind, jobOf, kindOf, refl, setOf, tickOf, true, ℕ, _≡_}
 use Rattle.arbiter.specs.Refusals.{cases, startCases, reportCases, overdueCases, applies, calling, listCases}
 
 -- tried on each kind, by computing
@@ -8,7 +8,7 @@ unfolding all ascends
 cases-ascend n t e =
     let c = calling (jobOf e) (tickOf e) (setOf e) in
     every-kind
-    (λ k. ascending (cond (described k .wakes) (listCases n) [] ++ casesBy (applies t c) (asked (described k))))
+    (λ k. ascending (cond (described k .wakes) (listCases n) [] ++ casesBy (applies t c) (refusalsOf (described k))))
     refl
     (kindOf e)
 

@@ -1,6 +1,21 @@
 -- When a call is refused: document 01's table of refusals, a line for each, and the cases of each call.
-use Rattle.arbiter.specs.Prelude.{_++_, AlreadyHeld, AlreadyLive, BadStart, BitSet, Bool, Case, ClockGoneBack, EmptySet, Event, List, NoSuchJob, NoSuchResource, NoToken, NotDeclared, NotHeld, NotLive, Refusal, ShortList, StartOutOfPlace, StillWaiting, Table, TimeSpent, TurnsSpent, UnknownKind, UnsoundTable, WrongLength, [], about, asked, below, casesBy, clockRefusals, cond, eqb, false, goneBack, highest, holds, inside, jobOf, jobs, leb, live, ltb, meets, not, refusing, setOf, tickOf, timeSpent, ℕ, _∷_}
+use Prim.Native.Nat.{ℕ}
+use mathlib.Core.Bool.{Bool, false, cond, not}
+use mathlib.Core.List.{List, [], _∷_, _++_}
+use lib.Dec.{eqb, leb, ltb}
+use Rattle.event.specs.Clock.{clockRefusals, goneBack, timeSpent}
+use Rattle.event.specs.Events.{about, refusalsOf, jobOf, setOf, tickOf}
+use Rattle.event.specs.Limits.{highest, jobs}
+use Rattle.event.specs.Refusals.{casesBy, refusing}
+use Rattle.event.specs.declared.events.Event.{Event}
+use Rattle.event.specs.declared.refusal.Refusal.{Refusal}
+use Rattle.event.specs.declared.refusal.Refusal.the-variants.{BadStart, ShortList, UnsoundTable, NoSuchJob, ClockGoneBack, TimeSpent, AlreadyLive, NotLive, NoToken, StillWaiting, EmptySet, NoSuchResource, NotDeclared, AlreadyHeld, NotHeld, TurnsSpent, WrongLength, UnknownKind, BitSet, StartOutOfPlace}
+use Rattle.laws.specs.Cases.{Case}
+use Rattle.laws.specs.Sets.{below, inside, meets}
+use Rattle.rows.specs.Order.{live}
+use Rattle.laws.specs.Lists.{holds}
 use Rattle.arbiter.specs.Sound.{ranges, rowIn, sound, tokenOf}
+use Rattle.arbiter.specs.declared.table.Table.{Table}
 
 -- what is handed to a call besides the table; 0 where it has no such part
 pub record Call : Type 0 where
@@ -28,7 +43,7 @@ applies t c NotDeclared = not (inside (c .set) (rowIn t (c .job) .declared))
 applies t c AlreadyHeld = meets (c .set) (rowIn t (c .job) .held)
 applies t c NotHeld = not (inside (c .set) (rowIn t (c .job) .held))
 applies t c TurnsSpent = eqb (t .last .0) highest
--- these are asked of a start, a lent list or a record
+-- not asked of a table: 1 of a start, 2 of a lent list (`listCases`), 17 to 19 of a record, 20 by the replay
 applies t c BadStart = false
 applies t c ShortList = false
 applies t c WrongLength = false
@@ -44,7 +59,7 @@ listCases n = refusing ShortList (ltb n jobs) ∷ []
 abbrev pub cases : ℕ → Table → Event → List Case
 cases n t e =
     cond (about e .wakes) (listCases n) []
-    ++ casesBy (applies t (calling (jobOf e) (tickOf e) (setOf e))) (asked (about e))
+    ++ casesBy (applies t (calling (jobOf e) (tickOf e) (setOf e))) (refusalsOf (about e))
 
 -- the case of a start
 abbrev pub startCases : ℕ → ℕ → ℕ → List Case

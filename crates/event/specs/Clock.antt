@@ -50,9 +50,7 @@ unfoldable pub forwards : ℕ → List ℕ → List (Outcome ℕ)
 forwards time [] = []
 forwards time (tick ∷ ticks) = forward time tick ∷ forwards (timeAfter time (forward time tick)) ticks
 
--- ---- True time is real time, wraps and all
-
--- real times, each at most 2^31-1 ms after the one before
+-- real times, each at most 2^31-1 ms after the one before, none above the highest
 pub data Often : ℕ → List ℕ → Type 0 where
   ended : {time : ℕ} → Often time []
   then : {time n : ℕ} {ns : List ℕ} → time ≤ n → n ≤ time + (2 ^ 31 - 1) → n ≤ highest → Often n ns → Often time (n ∷ ns)

@@ -1,4 +1,4 @@
--- Truth values as numbers, what a conjunction tells, and what a choice by a truth value tells.
+-- Truth values as numbers, and if .. then.
 use Prim.Native.Nat.{ℕ}
 use mathlib.Core.Bool.{Bool, true, false, not, _||_}
 

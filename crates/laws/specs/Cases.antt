@@ -42,7 +42,7 @@ pub data Outcome (A : Type 0) : Type 0 where
   refused : ℕ → Outcome A
   fine : A → Outcome A
 
--- the answer where 0 stands for no refusal
+-- the value where the number is 0, which stands for no refusal, else that refusal
 abbrev pub unless : {A : Type 0} → ℕ → A → Outcome A
 unless zero a = fine a
 unless (suc n) a = refused (suc n)
@@ -51,7 +51,7 @@ unless (suc n) a = refused (suc n)
 unfoldable pub outcome : {A : Type 0} → List Case → A → Outcome A
 outcome cs a = unless (first cs) a
 
--- the old value where 0 does not stand for no refusal
+-- the new value where the number is 0, else the old
 abbrev pub keepUnless : {A : Type 0} → ℕ → A → A → A
 keepUnless zero old new = new
 keepUnless (suc n) old new = old

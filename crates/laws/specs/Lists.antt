@@ -1,4 +1,4 @@
--- How many elements of a list pass a test, whether any does, whether all do; and how these change when one element does.
+-- How many elements of a list pass a test, whether any does, whether all do; and how many have gone.
 use Prim.Native.Nat.{ℕ, _+_}
 use mathlib.Core.Bool.{Bool, true, false, not, _&&_, _||_}
 use mathlib.Core.List.{List, [], _∷_}

@@ -1,4 +1,4 @@
--- Sets of resources as numbers: resource a is the bit of value 2 ^ a. Every law holds for numbers of any size, so for every width at once.
+-- Sets of resources as numbers: resource a is the bit of value 2 ^ a. Numbers may be of any size, so a width is never named.
 use Prim.Native.Nat.{ℕ, _-_, _/_, _%_, _^_}
 use mathlib.Core.Bool.{Bool}
 use lib.Bits.{bitAnd, bitOr}

@@ -29,7 +29,7 @@ unfoldable pub use Rattle.laws.specs.Sets.{below, inside, meet, meets, union, w
 pub use Rattle.laws.specs.Sets.{member}
 pub use Rattle.event.specs.Clock.{clockRefusals, difference, goneBack, timeSpent}
 unfoldable pub use Rattle.event.specs.Clock.{forward}
-pub use Rattle.event.specs.Events.{Role, about, actor, asked, hasJob, jobOf, names, nobody, opener, opens, setOf, tickOf}
+pub use Rattle.event.specs.Events.{Role, about, actor, refusalsOf, hasJob, jobOf, names, nobody, opener, opens, setOf, tickOf}
 pub use Rattle.event.specs.Limits.{jobs}
 pub use Rattle.event.specs.RefusalLaws.{cases-positive, first-named, some-first}
 pub use Rattle.event.specs.Refusals.{among, casesBy, numberOf, refusing}

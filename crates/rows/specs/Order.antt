@@ -1,4 +1,4 @@
--- The order of opening, and the two questions about it that decide everything: who stands before, and who is in the way.
+-- The order of opening, and the two counts along it that decide everything: who stands before, and who is in the way.
 use Prim.Native.Nat.{ℕ}
 use mathlib.Core.Bool.{Bool, not, _&&_, _||_}
 use mathlib.Core.List.{List}
@@ -27,7 +27,7 @@ ahead rows n = count (earlier n) rows
 abbrev pub claims : ℕ → ℕ → Row → Bool
 claims n s r = earlier n r && meets (r .declared) s
 
--- "in the way": how many of those declare some member of s
+-- "in the way": how many live rows of lower turn than n declare some member of s
 unfoldable pub inWay : List Row → ℕ → ℕ → ℕ
 inWay rows n s = count (claims n s) rows
 

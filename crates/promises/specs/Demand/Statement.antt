@@ -43,7 +43,7 @@ pub record AskedSet (a : Arbiter) (j n x h : ℕ) (t : Table) : Type 0 where
       (more : List Event) (e : Event) → blocked (course (a .next) t more .rows) n x ≡ true →
       count (eqb j) (a .lists (course (a .next) t more) e) ≡ bit (not (blocked (a .next (course (a .next) t more) e .rows) n x))
 
--- an event names no job whose live request has a turn up to n: it is a beat, an opening, or one of a later request
+-- an event names no job whose live request has a turn up to n: a beat, or an event of a job that has no request or a later one
 abbrev pub Beside : ℕ → Table → Event → Type 0
 Beside n t e = (i : ℕ) → live (rowIn t i) ≡ true → rowIn t i .turn .0 ≤ n → names i e ≡ false
 
@@ -77,7 +77,8 @@ module _ (a : Arbiter) (T R begin limit : ℕ) (past : List Event) (j : ℕ) (ti
   abbrev pub p : ℕ
   p = count live (before .rows)
 
-  -- all that is supposed: the start and the opening are accepted, and the request is still live
+  -- all that is supposed: the start and the opening are accepted, and the request is still live; of a request that an arbiter
+  -- drops nothing is said here, but what `next` makes of a row is no open question (demand 2)
   pub record Supposed : Type 0 where
     pub started : startAnswer T R limit ≡ fine saysDone
     pub accepted : takes a before (Open j tick s) ≡ true

@@ -1,5 +1,5 @@
 -- Whole histories: which events are accepted, whom they list as woken, and which requests leave in their course.
-use Rattle.promises.specs.Prelude.{_++_, Bool, Case, List, Table, [], about, accepted, answer, ap, applies, asked, calling, cases, casesBy, cond, false, false≢true, first, jobOf, jobs, keepUnless, le-ltb, leaves, length, listCases, listed, next, outcome, over, refl, said, setOf, suc, tickOf, true, unless, wakes, zero, ℕ, _∙_, _≡_, _≤_}
+use Rattle.promises.specs.Prelude.{_++_, Bool, Case, List, Table, [], about, accepted, answer, ap, applies, refusalsOf, calling, cases, casesBy, cond, false, false≢true, first, jobOf, jobs, keepUnless, le-ltb, leaves, length, listCases, listed, next, outcome, over, refl, said, setOf, suc, tickOf, true, unless, wakes, zero, ℕ, _∙_, _≡_, _≤_}
 use Rattle.event.specs.declared.events.Event.{Event}
 use Rattle.promises.specs.Kept.Words.{Accepts}
 use Rattle.promises.specs.History.Words.{isFine, lists, taken}
@@ -33,7 +33,7 @@ unfolding first
 first-long n t e h = go (about e .wakes)
   where
     rest : List Case
-    rest = casesBy (applies t (calling (jobOf e) (tickOf e) (setOf e))) (asked (about e))
+    rest = casesBy (applies t (calling (jobOf e) (tickOf e) (setOf e))) (refusalsOf (about e))
 
     go : (w : Bool) → first (cond w (listCases n) [] ++ rest) ≡ first (cond w (listCases jobs) [] ++ rest)
     go true = rw (le-ltb n jobs h)

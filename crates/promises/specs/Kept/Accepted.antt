@@ -1,5 +1,5 @@
 -- What is known of an accepted event: no case applies, the table was sound, and whoever acts may act.
-use Rattle.promises.specs.Prelude.{_++_, _<_, Bool, Case, List, Open, Refusal, Role, Table, Tick, [], about, accepted, actor, and-left, and-right, answer, applies, arith, asked, calling, case, cases, cases-positive, casesBy, clear, cond, eqb, eqb-true, false, false≢true, fine, first, hasJob, jobOf, jobs, le-ltb, le-of-eq, le-zero, leaves, leb-false, listCases, ltb-false, ltb-true, names, next, nobody, not, not-false, opener, outcome, positive, refl, rowIn, said, setOf, sound, subst, sym, tickOf, true, waiting, waiting-reads, ℕ, _∙_, _≡_}
+use Rattle.promises.specs.Prelude.{_++_, _<_, Bool, Case, List, Open, Refusal, Role, Table, Tick, [], about, accepted, actor, and-left, and-right, answer, applies, arith, refusalsOf, calling, case, cases, cases-positive, casesBy, clear, cond, eqb, eqb-true, false, false≢true, fine, first, hasJob, jobOf, jobs, le-ltb, le-of-eq, le-zero, leaves, leb-false, listCases, ltb-false, ltb-true, names, next, nobody, not, not-false, opener, outcome, positive, refl, rowIn, said, setOf, sound, subst, sym, tickOf, true, waiting, waiting-reads, ℕ, _∙_, _≡_}
 use Rattle.event.specs.declared.events.Event.{Event}
 use Rattle.promises.specs.Sound.Words.{SoundTable}
 use Rattle.promises.specs.Sound.Tests.{table-sound}
@@ -9,12 +9,12 @@ use Rattle.promises.specs.Kept.Words.{Accepts, Acts}
 pub event-positive : (n : ℕ) (t : Table) (e : Event) → positive (cases n t e) ≡ true
 event-positive n t e = go (about e .wakes)
   where
-    rest : positive (casesBy (applies t (calling (jobOf e) (tickOf e) (setOf e))) (asked (about e))) ≡ true
-    rest = cases-positive (applies t (calling (jobOf e) (tickOf e) (setOf e))) (asked (about e))
+    rest : positive (casesBy (applies t (calling (jobOf e) (tickOf e) (setOf e))) (refusalsOf (about e))) ≡ true
+    rest = cases-positive (applies t (calling (jobOf e) (tickOf e) (setOf e))) (refusalsOf (about e))
 
     go :
         (b : Bool) →
-        positive (cond b (listCases n) [] ++ casesBy (applies t (calling (jobOf e) (tickOf e) (setOf e))) (asked (about e))) ≡ true
+        positive (cond b (listCases n) [] ++ casesBy (applies t (calling (jobOf e) (tickOf e) (setOf e))) (refusalsOf (about e))) ≡ true
     go true = rest
     go false = rest
 
@@ -29,7 +29,7 @@ case-unsound n t e = go (about e .wakes)
   where
     go :
         (b : Bool) →
-        case 3 (cond b (listCases n) [] ++ casesBy (applies t (calling (jobOf e) (tickOf e) (setOf e))) (asked (about e)))
+        case 3 (cond b (listCases n) [] ++ casesBy (applies t (calling (jobOf e) (tickOf e) (setOf e))) (refusalsOf (about e)))
         ≡ not (sound t)
     go true = refl
     go false = refl
@@ -68,7 +68,7 @@ module _ (n : ℕ) (t : Table) (e : Event) (ok : Accepts n t e) where
   caseBy w r s own k =
       case k
       (cond w (listCases n) []
-      ++ casesBy (applies t (calling j (tickOf e) (setOf e))) (asked (record { number = 0; role = r; set = s; wakes = w; own = own })))
+      ++ casesBy (applies t (calling j (tickOf e) (setOf e))) (refusalsOf (record { number = 0; role = r; set = s; wakes = w; own = own })))
 
   -- whoever acts may act
   pub acts : about e .role ≡ actor → Acts t j

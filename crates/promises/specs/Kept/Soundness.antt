@@ -1,5 +1,5 @@
 -- Soundness is kept: every table that calls lead to from an accepted start is sound, so none is ever refused as 3.
-use Rattle.promises.specs.Prelude.{_++_, _<_, Bool, Call, Case, List, NoSuchJob, NotLive, Refusal, Row, ShortList, Table, UnsoundTable, [], _^_, about, acceptance-tells, accepted, answer, ap, applies, arith, asked, calling, case, cases, casesBy, clear, clockRefusals, cond, course, false, fine, first, first-named, freshTable, holds, idle, jobOf, jobs, keepUnless, late, leaves, length, listCases, ltb, next, noTable, not, not-false, outcome, overdue, ranges, refl, refusal-tells, refused, refusing, replicate, report, reported, rowIn, rowOf, run, said, setOf, sound, startAnswer, startCases, startTable, suc, sym, tickOf, true, true≢false, zero, ℕ, _∙_, _∷_, _≡_}
+use Rattle.promises.specs.Prelude.{_++_, _<_, Bool, Call, Case, List, NoSuchJob, NotLive, Refusal, Row, ShortList, Table, UnsoundTable, [], _^_, about, acceptance-tells, accepted, answer, ap, applies, arith, refusalsOf, calling, case, cases, casesBy, clear, clockRefusals, cond, course, false, fine, first, first-named, freshTable, holds, idle, jobOf, jobs, keepUnless, late, leaves, length, listCases, ltb, next, noTable, not, not-false, outcome, overdue, ranges, refl, refusal-tells, refused, refusing, replicate, report, reported, rowIn, rowOf, run, said, setOf, sound, startAnswer, startCases, startTable, suc, sym, tickOf, true, true≢false, zero, ℕ, _∙_, _∷_, _≡_}
 use Rattle.event.specs.declared.events.Event.{Event}
 use Rattle.arbiter.specs.Answers as Answers
 use Rattle.promises.specs.Kept.Words.{Accepts, NeverUnsound}
@@ -98,7 +98,7 @@ pub never-unsound : (t : Table) → sound t ≡ true → NeverUnsound t
 unfolding answer report overdue
 never-unsound t p =
     record {
-      event = λ n e f. true≢false (sym (refused-unsound (said t e) (about e .wakes) n t (calling (jobOf e) (tickOf e) (setOf e)) (asked (about e)) f) ∙ ap not p);
+      event = λ n e f. true≢false (sym (refused-unsound (said t e) (about e .wakes) n t (calling (jobOf e) (tickOf e) (setOf e)) (refusalsOf (about e)) f) ∙ ap not p);
       report = λ j f.
           true≢false
           (sym (refused-unsound (reported t (rowIn t j)) false 0 t (calling j 0 0) (UnsoundTable ∷ NoSuchJob ∷ NotLive ∷ []) f) ∙ ap not p);

@@ -1,5 +1,5 @@
 -- Requests of turns up to n: what they live through depends on the rows of turns up to n alone. The proof.
-use Rattle.promises.specs.Prelude.{_+_, _++_, Ask, Beat, Bool, Case, Complete, List, Open, Release, Row, Table, TurnsSpent, [], about, accepted, among, answer, ap, arith, asked, cases, cond, course, earlier-turn, false, false≢true, hasJob, jobOf, jobs, keep, lastAfter, lateAt, lateJob, length, line, listCases, moved, next, outcome, refl, releasedRow, rowAfter, rowIn, rowsAfter, rowsWith, run, saysDone, saysGranted, saysWait, saysWoke, set, setOf, settled, sound, sym, tickOf, timeAt, true, union, wakes, woken, ℕ, _∙_, _∷_, _≡_}
+use Rattle.promises.specs.Prelude.{_+_, _++_, Ask, Beat, Bool, Case, Complete, List, Open, Release, Row, Table, TurnsSpent, [], about, accepted, among, answer, ap, arith, refusalsOf, cases, cond, course, earlier-turn, false, false≢true, hasJob, jobOf, jobs, keep, lastAfter, lateAt, lateJob, length, line, listCases, moved, next, outcome, refl, releasedRow, rowAfter, rowIn, rowsAfter, rowsWith, run, saysDone, saysGranted, saysWait, saysWoke, set, setOf, settled, sound, sym, tickOf, timeAt, true, union, wakes, woken, ℕ, _∙_, _∷_, _≡_}
 use Rattle.event.specs.declared.events.Event.{Event}
 use Rattle.promises.specs.History.Events.{accepts}
 use Rattle.promises.specs.History.Words.{isFine, taken, Along}
@@ -18,10 +18,10 @@ module _ {T n : ℕ} {t u : Table} (along-t : Along T n t) (along-u : Along T n 
     (sound-u : sound u ≡ true) (a : Agree n t u) where
   -- of an event of one of them the cases are the same
   same-event :
-      (e : Event) → isOfThem n t (jobOf e) ≡ true → among TurnsSpent (asked (about e)) ≡ false → cases jobs t e ≡ cases jobs u e
+      (e : Event) → isOfThem n t (jobOf e) ≡ true → among TurnsSpent (refusalsOf (about e)) ≡ false → cases jobs t e ≡ cases jobs u e
   same-event e in-t q =
       ap (λ (cs : List Case). cond (about e .wakes) (listCases jobs) [] ++ cs)
-      (same-cases a (jobOf e) in-t sound-t sound-u (tickOf e) (setOf e) (asked (about e)) q)
+      (same-cases a (jobOf e) in-t sound-t sound-u (tickOf e) (setOf e) (refusalsOf (about e)) q)
 
   answered : (e : Event) → ofThem n t e ≡ true → butNumber (answer jobs t e) ≡ butNumber (answer jobs u e)
   unfolding answer
