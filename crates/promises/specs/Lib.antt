@@ -1,8 +1,6 @@
--- What every table that calls lead to keeps, and what whole histories show.
+-- What whole histories show, what later requests cannot change, and the sessions of document 01.
 pub mod Demand
 pub mod History
-pub mod Kept
 pub mod Prelude
 pub mod Sessions
-pub mod Sound
 pub mod UpTo

@@ -1,62 +1,54 @@
--- The names from outside that this crate's definitions and proofs use, passed on by one module.
-pub use Prim.Native.Nat.{_+_, _-_, _<_, _^_, _≤_, min, suc, zero, ℕ}
-pub use mathlib.Core.Bool.{Bool, _&&_, _||_, and-eq-true-iff, and-false, and-not-self, and-true, cond, false, false≢true, not, true, true≢false}
-pub use mathlib.Core.List.{List, List·Memᴰ, List·Memᴰ·cases-cons, List·Memᴰ·not-nil, [], _++_, _∷_, map, map-map}
-pub use mathlib.Core.Logic.{_≢_, _⊎_, inl, inr}
+-- The names from outside that this crate uses, passed on by one module; those of `kept` are cited from there.
+pub use Prim.Native.Nat.{_+_, _-_, _<_, _≤_, suc, zero, ℕ}
+pub use mathlib.Core.Bool.{Bool, _&&_, _||_, and-false, and-not-self, and-true, cond, false, false≢true, not, true, true≢false}
+pub use mathlib.Core.List.{List, [], _++_, _∷_, map, map-map}
 pub use mathlib.Core.Path.{_∙_, _≡_, ap, ap₂, fun-ext, refl, subst, sym}
-pub use native.Mathlib.Decide.{decLe, decLt, ℕ-discrete}
-pub use native.Mathlib.Nat.{le-antisymm, le-of-eq, le-refl, lt-irrefl, not-suc-le-zero, zero-add}
+pub use native.Mathlib.Nat.{le-antisymm, lt-irrefl, zero-add}
 pub use native.Mathlib.Omega.{arith}
-pub use borrow.Author.Tests.{eq-eqb, eqb-false, eqb-true, le-leb, le-ltb, leb-false, leb-true, lt-ltb, ltb-false, ltb-true, not-false, not-true}
-pub use lib.Arith.{le-zero}
+pub use borrow.Author.Tests.{eqb-false, eqb-true, le-leb, le-ltb, leb-true, lt-ltb, ltb-false, ltb-true}
 pub use lib.Dec.{eqb, leb, ltb}
-pub use lib.ListN.{List·getD-map, getD, length, length-map, length-replicate, length-set, replicate, set}
-pub use lib.Seq.{ext-getD, getD-set-other, getD-set-same, set-out}
-pub use Rattle.laws.specs.BoolLaws.{and-left, and-right, denied, denying, either, implied, implying}
+pub use lib.ListN.{List·getD-map, getD, length, length-map, length-replicate, replicate, set}
+pub use lib.Seq.{ext-getD, getD-set-same}
+pub use Rattle.laws.specs.BoolLaws.{and-left, either}
 pub use Rattle.laws.specs.Bools.{bit}
-pub use Rattle.laws.specs.CaseLaws.{acceptance-tells, clear, first-front, refusal-tells}
-pub use Rattle.laws.specs.Cases.{Case, Outcome, fine, keepUnless, positive, refused, unless, when}
+pub use Rattle.laws.specs.CaseLaws.{acceptance-tells, first-front}
+pub use Rattle.laws.specs.Cases.{Case, Outcome, fine, keepUnless, refused, unless, when}
 unfoldable pub use Rattle.laws.specs.Cases.{case, first, leaves, outcome}
-pub use Rattle.laws.specs.Chains.{_and_, none}
-pub use Rattle.laws.specs.Counts.{all-each, count-at, count-mono, count-same, count-some, count-sum, each-all}
+pub use Rattle.laws.specs.Counts.{count-mono}
 unfoldable pub use Rattle.laws.specs.Front.{over}
-pub use Rattle.laws.specs.GoneLaws.{gone-balance, gone-mono, gone-none, gone-same}
-pub use Rattle.laws.specs.HoldLaws.{hold, nth}
+pub use Rattle.laws.specs.GoneLaws.{gone-mono, gone-none, gone-same}
 unfoldable pub use Rattle.laws.specs.Lists.{all, count, gone}
-pub use Rattle.laws.specs.Lists.{holds}
-pub use Rattle.laws.specs.SetLaws.{inside-empty, inside-reads, inside-trans, inside-union, meets-comm, meets-empty, meets-inside, meets-reads, member-empty, member-without, union-empty, union-self, without-inside, without-le}
+pub use Rattle.laws.specs.SetLaws.{union-empty}
 unfoldable pub use Rattle.laws.specs.Sets.{below, inside, meet, meets, union, without}
-pub use Rattle.laws.specs.Sets.{member}
-pub use Rattle.event.specs.Clock.{clockRefusals, difference, goneBack, timeSpent}
+pub use Rattle.event.specs.Clock.{difference, goneBack, timeSpent}
 unfoldable pub use Rattle.event.specs.Clock.{forward}
-pub use Rattle.event.specs.Events.{Role, about, actor, refusalsOf, hasJob, jobOf, names, nobody, opener, opens, setOf, tickOf}
+pub use Rattle.event.specs.Events.{about, refusalsOf, hasJob, jobOf, names, opens, setOf, tickOf}
 pub use Rattle.event.specs.Limits.{jobs}
-pub use Rattle.event.specs.RefusalLaws.{cases-positive, first-named, some-first}
+pub use Rattle.event.specs.RefusalLaws.{some-first}
 pub use Rattle.event.specs.Refusals.{among, casesBy, numberOf, refusing}
 pub use Rattle.event.specs.declared.clock.Tick.{Tick}
 pub use Rattle.event.specs.declared.events.Event.the-variants.{Ask, Beat, Complete, Open, Release}
 pub use Rattle.event.specs.declared.refusal.Refusal.{Refusal}
 pub use Rattle.event.specs.declared.refusal.Refusal.the-variants.{AlreadyHeld, AlreadyLive, BadStart, BitSet, ClockGoneBack, EmptySet, NoSuchJob, NoSuchResource, NoToken, NotDeclared, NotHeld, NotLive, ShortList, StartOutOfPlace, StillWaiting, TimeSpent, TurnsSpent, UnknownKind, UnsoundTable, WrongLength}
 pub use Rattle.rows.specs.InLine.{lined-in-turn, listed-once}
-pub use Rattle.rows.specs.InWay.{ahead-mono, in-way-ahead, in-way-at, in-way-empty, in-way-inside, in-way-union}
+pub use Rattle.rows.specs.InWay.{ahead-mono, in-way-ahead}
 unfoldable pub use Rattle.rows.specs.Line.{from, keep, lined, place}
 pub use Rattle.rows.specs.Line.{line, rowOf}
-pub use Rattle.rows.specs.LineLaws.{each-head, each-tail}
 unfoldable pub use Rattle.rows.specs.Order.{ahead, distinct, inWay}
-pub use Rattle.rows.specs.Order.{bears, blocked, claims, earlier, idle, live, token, waiting}
-pub use Rattle.rows.specs.Propositions.{openingOf, Each, InTheWay}
-pub use Rattle.rows.specs.OrderLaws.{ahead-set, in-way-set}
+pub use Rattle.rows.specs.Order.{blocked, claims, earlier, idle, live, token, waiting}
+pub use Rattle.rows.specs.Propositions.{openingOf}
+pub use Rattle.rows.specs.OrderLaws.{ahead-set}
 unfoldable pub use Rattle.rows.specs.Propositions.{InTurn}
 pub use Rattle.rows.specs.Sweep.{grantedRow, restedRow, sweptRow, woke}
 unfoldable pub use Rattle.rows.specs.Sweep.{settled, woken}
-pub use Rattle.rows.specs.SweepLaws.{ahead-settled, distinct-settled, granted-keeps, in-way-settled, length-settled, row-settled, swept-idle, swept-keeps}
-pub use Rattle.rows.specs.Turns.{at-set, bears-own, bears-turn, distinct-at, distinct-rows, distinct-set, distinct-test, earlier-turn, live-within, not-earlier, turn-earlier, waiting-reads}
+pub use Rattle.rows.specs.SweepLaws.{granted-keeps, swept-idle, swept-keeps}
+pub use Rattle.rows.specs.Turns.{earlier-turn, not-earlier, turn-earlier, waiting-reads}
 pub use Rattle.rows.specs.declared.row.Row.{Row}
 pub use Rattle.arbiter.specs.Answers.{Said, saysDone, saysGranted, saysToken, saysWait, saysWoke}
-pub use Rattle.arbiter.specs.Meaning.{accepted, askedRow, freshTable, lastAfter, late, lateJob, moved, noTable, openedRow, releasedRow, reported, rowAfter, rowsAfter, rowsWith, run, said, timeAt, wakes}
+pub use Rattle.arbiter.specs.Meaning.{accepted, lastAfter, late, lateJob, moved, openedRow, releasedRow, reported, rowAfter, rowsAfter, rowsWith, run, said, timeAt, wakes}
 unfoldable pub use Rattle.arbiter.specs.Meaning.{answer, course, lateAt, listed, next, overdue, report, startAnswer, startTable}
-pub use Rattle.arbiter.specs.Refusals.{Call, applies, calling, cases, listCases, reportCases, startCases}
-pub use Rattle.arbiter.specs.Sound.{counters, idleConditions, ownConditions, placeConditions, ranges, rowIn, soundRow, waitingIn, within}
+pub use Rattle.arbiter.specs.Refusals.{applies, calling, cases, listCases, reportCases}
+pub use Rattle.arbiter.specs.Sound.{rowIn}
 unfoldable pub use Rattle.arbiter.specs.Sound.{sound}
 pub use Rattle.arbiter.specs.declared.table.Report.{Report}
 pub use Rattle.arbiter.specs.declared.table.Table.{Table}

@@ -9,10 +9,10 @@ use Rattle.promises.specs.History.Events.{accepts}
 use Rattle.promises.specs.History.Words.{leavings, Along, Bears, ours}
 use Rattle.promises.specs.History.Count.{along-run, way-run}
 use Rattle.promises.specs.History.Turn.{back-run}
-use Rattle.promises.specs.Kept.Soundness.{start-fresh, start-ranges}
-use Rattle.promises.specs.Kept.Words.{Accepts}
-use Rattle.promises.specs.Kept.Accepted.{answer-accepted}
-use Rattle.promises.specs.Sound.Tests.{ranges-in}
+use Rattle.kept.specs.Soundness.{start-fresh, start-ranges}
+use Rattle.kept.specs.Words.{Accepts}
+use Rattle.kept.specs.Accepted.{answer-accepted}
+use Rattle.kept.specs.Sound.Tests.{ranges-in}
 
 -- ---- The start
 

@@ -4,12 +4,12 @@ use Rattle.event.specs.declared.events.Event.{Event}
 use Rattle.promises.specs.Demand.Statement.{Beside, Unmoved}
 use Rattle.promises.specs.History.Words.{heeded, leaving, leavings, taken, Along, Bears, leavingsOf, heededBy, ours}
 use Rattle.promises.specs.History.Events.{next-either}
-use Rattle.promises.specs.Kept.Changes.{ahead-accepted, changes, left-by, lower-ahead, lower-way, way-accepted}
-use Rattle.promises.specs.Kept.Words.{ends, ByOpening, Change, began, ended, kept, Accepts, Alike}
+use Rattle.kept.specs.Changes.{ahead-accepted, changes, left-by, lower-ahead, lower-way, way-accepted}
+use Rattle.kept.specs.Words.{ends, ByOpening, Change, began, ended, kept, Accepts, Alike}
 use Rattle.promises.specs.History.Row.{row-after, swept-alike, swept-rests}
 use Rattle.promises.specs.History.Woken.{listed-after}
-use Rattle.promises.specs.Kept.Accepted.{was-sound}
-use Rattle.promises.specs.Kept.Rows.{waiting-alike}
+use Rattle.kept.specs.Accepted.{was-sound}
+use Rattle.kept.specs.Rows.{waiting-alike}
 
 -- ---- Those in the way stand before it
 

@@ -5,14 +5,14 @@ use Rattle.arbiter.specs.Answers as Answers
 use Rattle.promises.specs.Demand.Statement.{AskedSet, Has}
 use Rattle.promises.specs.History.Words.{lists, Along, Bears, ours}
 use Rattle.promises.specs.History.Events.{next-either}
-use Rattle.promises.specs.Kept.Changes.{ahead-accepted, alike-quiet}
+use Rattle.kept.specs.Changes.{ahead-accepted, alike-quiet}
 use Rattle.promises.specs.History.Count.{along-accepted, along-next, way-run}
 use Rattle.promises.specs.History.Row.{bears-after, lives, sets-after, waiting-is}
 use Rattle.promises.specs.History.Woken.{listed-after, unnamed}
-use Rattle.promises.specs.Kept.Words.{Accepts}
-use Rattle.promises.specs.Kept.Accepted.{acts, answer-accepted, next-accepted, passed}
-use Rattle.promises.specs.Kept.Decisions.{decided-sets}
-use Rattle.promises.specs.Kept.Named.{asked}
+use Rattle.kept.specs.Words.{Accepts}
+use Rattle.kept.specs.Accepted.{acts, answer-accepted, next-accepted, passed}
+use Rattle.kept.specs.Decisions.{decided-sets}
+use Rattle.kept.specs.Named.{asked}
 
 -- ---- A request that waits for a set
 

@@ -3,13 +3,13 @@ use Rattle.promises.specs.Prelude.{_&&_, _+_, _-_, _<_, Bool, List, Open
 use Rattle.event.specs.declared.events.Event.{Event}
 use Rattle.promises.specs.History.Words.{leaving, leavings, lists, taken, Along, Bears, leavingsOf}
 use Rattle.promises.specs.History.Events.{next-either}
-use Rattle.promises.specs.Kept.Changes.{changes, left-by, lower-ahead, opening-live}
-use Rattle.promises.specs.Kept.Words.{ends, Change, began, ended, kept, Accepts, Acts}
+use Rattle.kept.specs.Changes.{changes, left-by, lower-ahead, opening-live}
+use Rattle.kept.specs.Words.{ends, Change, began, ended, kept, Accepts, Acts}
 use Rattle.promises.specs.History.Count.{ahead-run, along-accepted, along-next}
 use Rattle.promises.specs.History.Row.{alive, bears-after, lives, sets-after, waiting-is}
 use Rattle.promises.specs.History.Woken.{listed-after, unnamed}
-use Rattle.promises.specs.Kept.Accepted.{next-accepted, open-below, open-idle, was-sound}
-use Rattle.promises.specs.Sound.Facts.{turns-given}
+use Rattle.kept.specs.Accepted.{next-accepted, open-below, open-idle, was-sound}
+use Rattle.kept.specs.Sound.Facts.{turns-given}
 
 -- ---- The opening
 

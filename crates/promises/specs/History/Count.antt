@@ -3,8 +3,8 @@ use Rattle.promises.specs.Prelude.{_+_, Bool, List, Row, Table, [], abou
 use Rattle.event.specs.declared.events.Event.{Event}
 use Rattle.promises.specs.History.Events.{next-either}
 use Rattle.promises.specs.History.Words.{Along, leaving, leavings, taken, leavingsOf}
-use Rattle.promises.specs.Kept.Changes.{count-accepted, length-after, lower-ahead, lower-way}
-use Rattle.promises.specs.Kept.Words.{Accepts, Lower}
+use Rattle.kept.specs.Changes.{count-accepted, length-after, lower-ahead, lower-way}
+use Rattle.kept.specs.Words.{Accepts, Lower}
 
 -- ---- What every table of a history keeps
 

@@ -3,12 +3,12 @@ use Rattle.promises.specs.Prelude.{_&&_, _<_, Bool, List, Row, Table, ac
 use Rattle.event.specs.declared.events.Event.{Event}
 use Rattle.promises.specs.History.Words.{Bears}
 use Rattle.promises.specs.History.Count.{along-accepted}
-use Rattle.promises.specs.Kept.Words.{Accepts, Decided, Alike, Fate, acted, same, stayed}
-use Rattle.promises.specs.Kept.Accepted.{was-sound}
-use Rattle.promises.specs.Kept.Decisions.{decided-sets, sweeps}
-use Rattle.promises.specs.Kept.Rows.{waiting-alike}
-use Rattle.promises.specs.Kept.Woken.{fate}
-use Rattle.promises.specs.Sound.Words.{LiveRow}
+use Rattle.kept.specs.Words.{Accepts, Decided, Alike, Fate, acted, same, stayed}
+use Rattle.kept.specs.Accepted.{was-sound}
+use Rattle.kept.specs.Decisions.{decided-sets, sweeps}
+use Rattle.kept.specs.Rows.{waiting-alike}
+use Rattle.kept.specs.Woken.{fate}
+use Rattle.kept.specs.Sound.Words.{LiveRow}
 
 -- what waiting is made of
 pub waiting-is :

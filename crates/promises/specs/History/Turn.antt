@@ -4,8 +4,8 @@ use Rattle.event.specs.declared.events.Event.{Event}
 use Rattle.promises.specs.History.Events.{next-either}
 use Rattle.promises.specs.History.Words.{Along}
 use Rattle.promises.specs.History.Count.{along-next}
-use Rattle.promises.specs.Kept.Changes.{changes}
-use Rattle.promises.specs.Kept.Words.{Change, began, ended, kept}
+use Rattle.kept.specs.Changes.{changes}
+use Rattle.kept.specs.Words.{Change, began, ended, kept}
 
 module _ {T n : ℕ} (t : Table) (along : Along T n t) (some : 0 < n) (j : ℕ) where
   -- a row that bears turn n after an event has the turn and the declared set that it had before

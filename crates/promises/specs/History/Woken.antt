@@ -3,9 +3,9 @@ use Rattle.promises.specs.Prelude.{_&&_, Bool, Table, accepted, ap, bit,
 use Rattle.event.specs.declared.events.Event.{Event}
 use Rattle.promises.specs.History.Words.{Bears}
 use Rattle.promises.specs.History.Row.{bears-after, lives}
-use Rattle.promises.specs.Kept.Words.{Accepts}
-use Rattle.promises.specs.Kept.Accepted.{named-rests, next-accepted}
-use Rattle.promises.specs.Kept.Woken.{wakes-woken}
+use Rattle.kept.specs.Words.{Accepts}
+use Rattle.kept.specs.Accepted.{named-rests, next-accepted}
+use Rattle.kept.specs.Woken.{wakes-woken}
 
 -- ---- While a job waits, its own events are refused
 

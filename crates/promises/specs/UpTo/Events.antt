@@ -8,9 +8,9 @@ use Rattle.promises.specs.History.Words.{lists, taken, Along}
 use Rattle.promises.specs.History.Events.{next-either}
 use Rattle.promises.specs.History.Count.{along-next}
 use Rattle.promises.specs.History.Turn.{back-run}
-use Rattle.promises.specs.Kept.Accepted.{next-accepted}
-use Rattle.promises.specs.Kept.Woken.{wakes-woken}
-use Rattle.promises.specs.Sound.Words.{seen}
+use Rattle.kept.specs.Accepted.{next-accepted}
+use Rattle.kept.specs.Woken.{wakes-woken}
+use Rattle.kept.specs.Sound.Words.{seen}
 use Rattle.promises.specs.UpTo.Statement.{isOfThem, ofThem, upTo}
 use Rattle.promises.specs.UpTo.Line.{woken-none, woken-up-to}
 use Rattle.promises.specs.UpTo.Rows.{row-up-to, seen-out}

@@ -4,10 +4,10 @@ use Rattle.event.specs.declared.events.Event.{Event}
 use Rattle.promises.specs.History.Events.{accepts}
 use Rattle.promises.specs.History.Words.{isFine, taken, Along}
 use Rattle.promises.specs.History.Count.{along-next}
-use Rattle.promises.specs.Kept.Soundness.{next-sound}
-use Rattle.promises.specs.Kept.Words.{Accepts}
-use Rattle.promises.specs.Kept.Accepted.{next-accepted, open-idle}
-use Rattle.promises.specs.Sound.Words.{seen}
+use Rattle.kept.specs.Soundness.{next-sound}
+use Rattle.kept.specs.Words.{Accepts}
+use Rattle.kept.specs.Accepted.{next-accepted, open-idle}
+use Rattle.kept.specs.Sound.Words.{seen}
 use Rattle.promises.specs.UpTo.Statement.{Agree, SameUpTo, ReportedAlike, butNumber, ofThem, upTo, TakenAlike, isOfThem}
 use Rattle.promises.specs.UpTo.Events.{listed-woken, others, refused-stays}
 use Rattle.promises.specs.UpTo.Line.{late-up-to}

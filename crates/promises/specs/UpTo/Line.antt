@@ -1,7 +1,7 @@
 -- The jobs of turns up to n in line, and those of them that are woken, are those of the rows up to n alone.
 use Rattle.promises.specs.Prelude.{_&&_, _+_, _-_, _<_, Bool, InTurn, List, Row, [], and-false, and-not-self, and-true, ap, arith, cond, earlier, earlier-turn, false, from, fun-ext, getD, idle, keep, lateJob, leb, length, length-map, line, lined, lined-in-turn, live, lt-ltb, ltb, ltb-true, not, not-earlier, place, refl, rowOf, sym, true, true≢false, turn-earlier, waiting, woke, woken, ℕ, _∙_, _∷_, _≡_}
-use Rattle.promises.specs.Kept.Woken.{keep-none}
-use Rattle.promises.specs.Sound.Words.{seen}
+use Rattle.kept.specs.Woken.{keep-none}
+use Rattle.kept.specs.Sound.Words.{seen}
 use Rattle.promises.specs.UpTo.Statement.{upTo}
 use Rattle.promises.specs.UpTo.Rows.{row-up-to, seen-in, waiting-up-to}
 

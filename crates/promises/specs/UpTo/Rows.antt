@@ -1,10 +1,10 @@
 -- What the rows of turns up to n decide: who stands before, what is in the way, who waits, what a sweep leaves.
 use Rattle.promises.specs.Prelude.{_+_, Bool, List, List·getD-map, Row, [], ap, arith, cond, earlier, earlier-turn, false, fun-ext, idle, map, map-map, refl, rowOf, set, settled, suc, swept-idle, swept-keeps, sweptRow, sym, true, true≢false, turn-earlier, waiting, zero, ℕ, _∙_, _∷_, _≡_, _≤_}
 use Rattle.promises.specs.History.Row.{swept-alike}
-use Rattle.promises.specs.Kept.Words.{Alike}
-use Rattle.promises.specs.Kept.Rows.{waiting-alike}
-use Rattle.promises.specs.Sound.Facts.{below-alike}
-use Rattle.promises.specs.Sound.Words.{seen}
+use Rattle.kept.specs.Words.{Alike}
+use Rattle.kept.specs.Rows.{waiting-alike}
+use Rattle.kept.specs.Sound.Facts.{below-alike}
+use Rattle.kept.specs.Sound.Words.{seen}
 use Rattle.promises.specs.UpTo.Statement.{upTo}
 
 -- ---- A row as it is seen

@@ -3,7 +3,7 @@
 use Rattle.promises.specs.Prelude.{_&&_, _+_, _<_, AlreadyHeld, AlreadyLive, BadStart, BitSet, Bool, Case, ClockGoneBack, EmptySet, List, NoSuchJob, NoSuchResource, NoToken, NotDeclared, NotHeld, NotLive, Open, Outcome, Refusal, Row, Said, ShortList, StartOutOfPlace, StillWaiting, Table, Tick, TimeSpent, TurnsSpent, UnknownKind, UnsoundTable, WrongLength, [], about, ahead, among, and-left, answer, ap, applies, arith, below, blocked, calling, casesBy, difference, earlier, earlier-turn, eqb, false, fine, first, first-front, goneBack, hasJob, inWay, inside, jobOf, jobs, leb, live, lt-irrefl, ltb, meets, not, numberOf, outcome, refl, refused, refusing, report, rowIn, rowOf, said, saysDone, saysGranted, saysToken, saysWait, saysWoke, some-first, sound, suc, sym, timeAt, timeSpent, true, true≢false, unless, when, zero, _||_, ℕ, _∙_, _∷_, _≡_, _≤_}
 use Rattle.event.specs.declared.events.Event.{Event}
 use Rattle.promises.specs.History.Words.{isFine}
-use Rattle.promises.specs.Sound.Words.{seen}
+use Rattle.kept.specs.Sound.Words.{seen}
 use Rattle.promises.specs.UpTo.Statement.{Agree, isOfThem, butNumber, ofThem}
 use Rattle.promises.specs.UpTo.Rows.{alike-up-to, earlier-seen, row-up-to, seen-in}
 

@@ -17,7 +17,7 @@ use Rattle.arbiter.specs.Meaning.{answer, late, next, report}
 use Rattle.arbiter.specs.declared.table.Table.{Table}
 use Rattle.promises.specs.History.Words.{lists, taken}
 use Rattle.arbiter.specs.Sound.{rowIn}
-use Rattle.promises.specs.Sound.Words.{seen}
+use Rattle.kept.specs.Sound.Words.{seen}
 
 -- the rows with those of higher turn than n made idle
 abbrev pub upTo : ℕ → List Row → List Row

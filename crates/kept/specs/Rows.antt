@@ -1,7 +1,7 @@
 -- When a row stays sound, though the table around it moves on.
-use Rattle.promises.specs.Prelude.{_&&_, _<_, Bool, List, Row, Table, ahead, ahead-set, ahead-settled, ap, arith, bit, claims, decLe, earlier, false, idle, in-way-set, in-way-settled, in-way-union, inside, inside-empty, inside-union, le-of-eq, length, live, ltb, meets, meets-empty, not, not-earlier, refl, rowOf, set, set-out, settled, sym, true, union-self, waiting, _||_, ℕ, _∙_, _≡_, _≤_}
-use Rattle.promises.specs.Kept.Words.{Decided, grants, waits, Alike, NoEarlier, Clearer}
-use Rattle.promises.specs.Sound.Words.{LiveRow}
+use Rattle.kept.specs.Prelude.{_&&_, _<_, Bool, List, Row, Table, ahead, ahead-set, ahead-settled, ap, arith, bit, claims, decLe, earlier, false, idle, in-way-set, in-way-settled, in-way-union, inside, inside-empty, inside-union, le-of-eq, length, live, ltb, meets, meets-empty, not, not-earlier, refl, rowOf, set, set-out, settled, sym, true, union-self, waiting, _||_, ℕ, _∙_, _≡_, _≤_}
+use Rattle.kept.specs.Words.{Decided, grants, waits, Alike, NoEarlier, Clearer}
+use Rattle.kept.specs.Sound.Words.{LiveRow}
 
 pub alike-self : {rows : List Row} {n : ℕ} → Alike rows rows n
 alike-self = record { same-ahead = refl; same-way = λ x. refl }

@@ -1,6 +1,6 @@
 -- A sound table in plain propositions: what the tests of `sound` say, and that they say no more.
-use Rattle.promises.specs.Prelude.{_&&_, _++_, _<_, Bool, List, Row, Table, all, all-each, _and_, and-left, and-right, ap, arith, cond, counters, denied, denying, distinct, distinct-rows, distinct-test, each-all, eq-eqb, eqb-true, false, hold, holds, idle, idleConditions, implied, implying, le-leb, le-ltb, le-of-eq, le-zero, leb, leb-true, live, lt-ltb, ltb, ltb-false, ltb-true, none, not, not-true, nth, ownConditions, placeConditions, ranges, refl, rowIn, sound, soundRow, true, waiting, waiting-reads, waitingIn, within, ℕ, _≡_, _≤_}
-use Rattle.promises.specs.Sound.Words.{LiveRow, SoundRow, InRange, SoundTable}
+use Rattle.kept.specs.Prelude.{_&&_, _++_, _<_, Bool, List, Row, Table, all, all-each, _and_, and-left, and-right, ap, arith, cond, counters, denied, denying, distinct, distinct-rows, distinct-test, each-all, eq-eqb, eqb-true, false, hold, holds, idle, idleConditions, implied, implying, le-leb, le-ltb, le-of-eq, le-zero, leb, leb-true, live, lt-ltb, ltb, ltb-false, ltb-true, none, not, not-true, nth, ownConditions, placeConditions, ranges, refl, rowIn, sound, soundRow, true, waiting, waiting-reads, waitingIn, within, ℕ, _≡_, _≤_}
+use Rattle.kept.specs.Sound.Words.{LiveRow, SoundRow, InRange, SoundTable}
 
 -- ---- The propositions
 

@@ -1,6 +1,6 @@
 -- What Q3 decides on a set, at an ask and in a sweep: the whole of it or nothing.
-use Rattle.promises.specs.Prelude.{Bool, List, Row, Table, arith, askedRow, blocked, cond, false, inWay, le-ltb, le-of-eq, le-zero, lt-ltb, ltb-false, ltb-true, refl, restedRow, sweptRow, sym, true, true≢false, union, waiting, ℕ, _∙_, _≡_}
-use Rattle.promises.specs.Kept.Words.{Decided, grants, waits, Asked, Swept}
+use Rattle.kept.specs.Prelude.{Bool, List, Row, Table, arith, askedRow, blocked, cond, false, inWay, le-ltb, le-of-eq, le-zero, lt-ltb, ltb-false, ltb-true, refl, restedRow, sweptRow, sym, true, true≢false, union, waiting, ℕ, _∙_, _≡_}
+use Rattle.kept.specs.Words.{Decided, grants, waits, Asked, Swept}
 
 -- ---- The decision
 

@@ -1,11 +1,11 @@
 -- Soundness is kept: every table that calls lead to from an accepted start is sound, so none is ever refused as 3.
-use Rattle.promises.specs.Prelude.{_++_, _<_, Bool, Call, Case, List, NoSuchJob, NotLive, Refusal, Row, ShortList, Table, UnsoundTable, [], _^_, about, acceptance-tells, accepted, answer, ap, applies, arith, refusalsOf, calling, case, cases, casesBy, clear, clockRefusals, cond, course, false, fine, first, first-named, freshTable, holds, idle, jobOf, jobs, keepUnless, late, leaves, length, listCases, ltb, next, noTable, not, not-false, outcome, overdue, ranges, refl, refusal-tells, refused, refusing, replicate, report, reported, rowIn, rowOf, run, said, setOf, sound, startAnswer, startCases, startTable, suc, sym, tickOf, true, true≢false, zero, ℕ, _∙_, _∷_, _≡_}
+use Rattle.kept.specs.Prelude.{_++_, _<_, Bool, Call, Case, List, NoSuchJob, NotLive, Refusal, Row, ShortList, Table, UnsoundTable, [], _^_, about, acceptance-tells, accepted, answer, ap, applies, arith, refusalsOf, calling, case, cases, casesBy, clear, clockRefusals, cond, course, false, fine, first, first-named, freshTable, holds, idle, jobOf, jobs, keepUnless, late, leaves, length, listCases, ltb, next, noTable, not, not-false, outcome, overdue, ranges, refl, refusal-tells, refused, refusing, replicate, report, reported, rowIn, rowOf, run, said, setOf, sound, startAnswer, startCases, startTable, suc, sym, tickOf, true, true≢false, zero, ℕ, _∙_, _∷_, _≡_}
 use Rattle.event.specs.declared.events.Event.{Event}
 use Rattle.arbiter.specs.Answers as Answers
-use Rattle.promises.specs.Kept.Words.{Accepts, NeverUnsound}
-use Rattle.promises.specs.Kept.Accepted.{leaves-new}
-use Rattle.promises.specs.Kept.Events.{accepted-kept}
-use Rattle.promises.specs.Sound.Tests.{idle-sound, ranges-in, sound-table}
+use Rattle.kept.specs.Words.{Accepts, NeverUnsound}
+use Rattle.kept.specs.Accepted.{leaves-new}
+use Rattle.kept.specs.Events.{accepted-kept}
+use Rattle.kept.specs.Sound.Tests.{idle-sound, ranges-in, sound-table}
 
 -- what a call leaves has a property that the old value has, and the new one if no case applies
 left-with :

@@ -17,7 +17,6 @@ use Rattle.rows.specs.Sweep.{sweptRow}
 use Rattle.arbiter.specs.Meaning.{accepted, answer, overdue, report}
 use Rattle.event.specs.Events.{about, names}
 use mathlib.Core.Logic.{_≢_}
-use Rattle.promises.specs.Prelude.{_+_, _<_, Bool, List, Row, Table, about, accepted, ahead, false, idle, inWay, openingOf, rowIn, true, ℕ, _≡_, _≤_}
 
 -- no case refuses the event
 abbrev pub Accepts : ℕ → Table → Event → Type 0

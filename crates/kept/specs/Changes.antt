@@ -1,8 +1,8 @@
 -- What an accepted event does to what rows were opened with, said once for each event, and what follows for every count.
-use Rattle.promises.specs.Prelude.{_&&_, _+_, _<_, Ask, Beat, Bool, Complete, List, Open, Release, Row, Table, about, accepted, ahead, and-not-self, and-true, ap, arith, blocked, claims, cond, count, decLe, earlier, either, eq-eqb, false, getD-set-other, getD-set-same, gone, gone-balance, gone-none, hasJob, idle, inWay, jobOf, length, length-set, length-settled, live, live-within, ltb, meets, not, not-earlier, openedRow, openingOf, refl, row-settled, rowAfter, rowIn, rowOf, set, set-out, settled, subst, swept-idle, swept-keeps, sym, tickOf, timeAt, true, true≢false, ℕ, ℕ-discrete, _∙_, _≡_, _≤_}
+use Rattle.kept.specs.Prelude.{_&&_, _+_, _<_, Ask, Beat, Bool, Complete, List, Open, Release, Row, Table, about, accepted, ahead, and-not-self, and-true, ap, arith, blocked, claims, cond, count, decLe, earlier, either, eq-eqb, false, getD-set-other, getD-set-same, gone, gone-balance, gone-none, hasJob, idle, inWay, jobOf, length, length-set, length-settled, live, live-within, ltb, meets, not, not-earlier, openedRow, openingOf, refl, row-settled, rowAfter, rowIn, rowOf, set, set-out, settled, subst, swept-idle, swept-keeps, sym, tickOf, timeAt, true, true≢false, ℕ, ℕ-discrete, _∙_, _≡_, _≤_}
 use Rattle.event.specs.declared.events.Event.{Event}
-use Rattle.promises.specs.Kept.Accepted.{acts, open-idle}
-use Rattle.promises.specs.Kept.Words.{Accepts, Acts, Alike, ByOpening, Change, Lower, began, ended, kept, ends}
+use Rattle.kept.specs.Accepted.{acts, open-idle}
+use Rattle.kept.specs.Words.{Accepts, Acts, Alike, ByOpening, Change, Lower, began, ended, kept, ends}
 
 -- ---- What becomes of a row
 

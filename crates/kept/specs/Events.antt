@@ -1,12 +1,12 @@
 -- Every accepted event leaves a sound table.
-use Rattle.promises.specs.Prelude.{_+_, _-_, _<_, Ask, Beat, Bool, Complete, List, Open, Release, Row, Table, Tick, _^_, accepted, ahead, ahead-set, ap, arith, askedRow, at-set, below, case, cond, decLe, distinct-rows, distinct-set, distinct-settled, distinct-test, eqb-false, false, idle, in-way-empty, in-way-inside, in-way-set, inside, inside-empty, inside-trans, le-refl, length, live-within, lt-irrefl, lt-ltb, ltb-false, meets, meets-comm, meets-empty, meets-inside, moved, not-false, openedRow, refl, releasedRow, row-settled, rowIn, set, set-out, settled, swept-idle, sweptRow, sym, timeAt, token, true, waiting, waiting-reads, without, without-inside, without-le, ℕ, _∙_, _≡_, _≢_, _≤_}
+use Rattle.kept.specs.Prelude.{_+_, _-_, _<_, Ask, Beat, Bool, Complete, List, Open, Release, Row, Table, Tick, _^_, accepted, ahead, ahead-set, ap, arith, askedRow, at-set, below, case, cond, decLe, distinct-rows, distinct-set, distinct-settled, distinct-test, eqb-false, false, idle, in-way-empty, in-way-inside, in-way-set, inside, inside-empty, inside-trans, le-refl, length, live-within, lt-irrefl, lt-ltb, ltb-false, meets, meets-comm, meets-empty, meets-inside, moved, not-false, openedRow, refl, releasedRow, row-settled, rowIn, set, set-out, settled, swept-idle, sweptRow, sym, timeAt, token, true, waiting, waiting-reads, without, without-inside, without-le, ℕ, _∙_, _≡_, _≢_, _≤_}
 use Rattle.event.specs.declared.events.Event.{Event}
-use Rattle.promises.specs.Kept.Words.{Accepts, Acts, Asked, Decided, Swept, grants, waits, Alike, Clearer, NoEarlier}
-use Rattle.promises.specs.Kept.Accepted.{acts, open-idle, passed, was-sound}
-use Rattle.promises.specs.Kept.Decisions.{asks, sweeps}
-use Rattle.promises.specs.Kept.Rows.{alike-clearer, alike-kept, alike-opened, alike-self, alike-settled, carried, decided, decided-alike}
-use Rattle.promises.specs.Sound.Words.{LiveRow, SoundRow, SoundTable}
-use Rattle.promises.specs.Sound.Tests.{idle-sound}
+use Rattle.kept.specs.Words.{Accepts, Acts, Asked, Decided, Swept, grants, waits, Alike, Clearer, NoEarlier}
+use Rattle.kept.specs.Accepted.{acts, open-idle, passed, was-sound}
+use Rattle.kept.specs.Decisions.{asks, sweeps}
+use Rattle.kept.specs.Rows.{alike-clearer, alike-kept, alike-opened, alike-self, alike-settled, carried, decided, decided-alike}
+use Rattle.kept.specs.Sound.Words.{LiveRow, SoundRow, SoundTable}
+use Rattle.kept.specs.Sound.Tests.{idle-sound}
 
 -- ---- What the five events leave
 

@@ -1,6 +1,6 @@
 -- How the number ahead rises from turn to turn, and so how many live rows have fewer than T ahead.
-use Rattle.promises.specs.Prelude.{_&&_, _+_, _<_, Bool, List, Row, ahead, ahead-mono, and-eq-true-iff, arith, bears, bears-own, bears-turn, bit, count, count-at, count-mono, count-some, count-sum, decLe, distinct, distinct-at, earlier, earlier-turn, eqb, eqb-false, eqb-true, false, idle, le-antisymm, le-ltb, le-of-eq, live, lt-ltb, ltb, ltb-false, ltb-true, min, not-suc-le-zero, refl, rowOf, suc, token, true, turn-earlier, zero, ℕ, _∙_, _≡_, _≤_}
-use Rattle.promises.specs.Sound.Words.{holdsToken}
+use Rattle.kept.specs.Prelude.{_&&_, _+_, _<_, Bool, List, Row, ahead, ahead-mono, and-eq-true-iff, arith, bears, bears-own, bears-turn, bit, count, count-at, count-mono, count-some, count-sum, decLe, distinct, distinct-at, earlier, earlier-turn, eqb, eqb-false, eqb-true, false, idle, le-antisymm, le-ltb, le-of-eq, live, lt-ltb, ltb, ltb-false, ltb-true, min, not-suc-le-zero, refl, rowOf, suc, token, true, turn-earlier, zero, ℕ, _∙_, _≡_, _≤_}
+use Rattle.kept.specs.Sound.Words.{holdsToken}
 
 -- below the next number lie those below this one, and this one
 below-next : (m n : ℕ) → bit (ltb m (suc n)) ≡ bit (ltb m n) + bit (eqb m n)

@@ -1,9 +1,9 @@
 -- What holds of every sound table, and so of every table that calls lead to.
-use Rattle.promises.specs.Prelude.{_&&_, _<_, Bool, List, Row, Table, ahead, and-eq-true-iff, ap, arith, claims, cond, count, count-at, count-same, count-some, decLt, distinct-test, earlier, false, false≢true, idle, in-way-ahead, in-way-at, inWay, inside-reads, live, ltb-true, meets, member, member-empty, min, refl, rowIn, rowOf, sound, soundRow, sym, token, true, waiting, waiting-reads, ℕ, _∙_, _≡_, _≤_}
-use Rattle.promises.specs.Kept.Words.{Alike}
-use Rattle.promises.specs.Sound.Words.{SoundTable, SameNumbers, seen, holdsToken}
-use Rattle.promises.specs.Sound.Tests.{table-sound}
-use Rattle.promises.specs.Sound.Tokens.{tokens-out}
+use Rattle.kept.specs.Prelude.{_&&_, _<_, Bool, List, Row, Table, ahead, and-eq-true-iff, ap, arith, claims, cond, count, count-at, count-same, count-some, decLt, distinct-test, earlier, false, false≢true, idle, in-way-ahead, in-way-at, inWay, inside-reads, live, ltb-true, meets, member, member-empty, min, refl, rowIn, rowOf, sound, soundRow, sym, token, true, waiting, waiting-reads, ℕ, _∙_, _≡_, _≤_}
+use Rattle.kept.specs.Words.{Alike}
+use Rattle.kept.specs.Sound.Words.{SoundTable, SameNumbers, seen, holdsToken}
+use Rattle.kept.specs.Sound.Tests.{table-sound}
+use Rattle.kept.specs.Sound.Tokens.{tokens-out}
 
 -- ---- From the propositions
 

@@ -1,9 +1,9 @@
 -- What is known of an accepted event: no case applies, the table was sound, and whoever acts may act.
-use Rattle.promises.specs.Prelude.{_++_, _<_, Bool, Case, List, Open, Refusal, Role, Table, Tick, [], about, accepted, actor, and-left, and-right, answer, applies, arith, refusalsOf, calling, case, cases, cases-positive, casesBy, clear, cond, eqb, eqb-true, false, false≢true, fine, first, hasJob, jobOf, jobs, le-ltb, le-of-eq, le-zero, leaves, leb-false, listCases, ltb-false, ltb-true, names, next, nobody, not, not-false, opener, outcome, positive, refl, rowIn, said, setOf, sound, subst, sym, tickOf, true, waiting, waiting-reads, ℕ, _∙_, _≡_}
+use Rattle.kept.specs.Prelude.{_++_, _<_, Bool, Case, List, Open, Refusal, Role, Table, Tick, [], about, accepted, actor, and-left, and-right, answer, applies, arith, refusalsOf, calling, case, cases, cases-positive, casesBy, clear, cond, eqb, eqb-true, false, false≢true, fine, first, hasJob, jobOf, jobs, le-ltb, le-of-eq, le-zero, leaves, leb-false, listCases, ltb-false, ltb-true, names, next, nobody, not, not-false, opener, outcome, positive, refl, rowIn, said, setOf, sound, subst, sym, tickOf, true, waiting, waiting-reads, ℕ, _∙_, _≡_}
 use Rattle.event.specs.declared.events.Event.{Event}
-use Rattle.promises.specs.Sound.Words.{SoundTable}
-use Rattle.promises.specs.Sound.Tests.{table-sound}
-use Rattle.promises.specs.Kept.Words.{Accepts, Acts}
+use Rattle.kept.specs.Sound.Words.{SoundTable}
+use Rattle.kept.specs.Sound.Tests.{table-sound}
+use Rattle.kept.specs.Words.{Accepts, Acts}
 
 -- all numbers of an event's cases are positive
 pub event-positive : (n : ℕ) (t : Table) (e : Event) → positive (cases n t e) ≡ true

@@ -1,12 +1,12 @@
 -- What accepted events do and never do, by name.
-use Rattle.promises.specs.Prelude.{_+_, _<_, Ask, Bool, InTheWay, Open, Release, Row, Table, Tick, acceptance-tells, accepted, and-false, answer, ap, arith, askedRow, blocked, case, cases, cond, false, fine, getD-set-same, idle, in-way-at, inWay, inside, inside-reads, inside-trans, jobs, length, live-within, lt-ltb, ltb-true, meets-reads, member, member-without, next, not, not-false, openedRow, refl, releasedRow, rowIn, said, timeAt, token, true, without, ℕ, _∙_, _≡_}
+use Rattle.kept.specs.Prelude.{_+_, _<_, Ask, Bool, InTheWay, Open, Release, Row, Table, Tick, acceptance-tells, accepted, and-false, answer, ap, arith, askedRow, blocked, case, cases, cond, false, fine, getD-set-same, idle, in-way-at, inWay, inside, inside-reads, inside-trans, jobs, length, live-within, lt-ltb, ltb-true, meets-reads, member, member-without, next, not, not-false, openedRow, refl, releasedRow, rowIn, said, timeAt, token, true, without, ℕ, _∙_, _≡_}
 use Rattle.event.specs.declared.events.Event.{Event}
 use Rattle.arbiter.specs.Answers as Answers
-use Rattle.promises.specs.Kept.Words.{Accepts, Asked, Decided, grants, waits}
-use Rattle.promises.specs.Kept.Accepted.{acts, answer-accepted, next-accepted, open-below, passed, was-sound}
-use Rattle.promises.specs.Kept.Decisions.{asks}
-use Rattle.promises.specs.Kept.Events.{accepted-kept}
-use Rattle.promises.specs.Sound.Words.{SoundTable}
+use Rattle.kept.specs.Words.{Accepts, Asked, Decided, grants, waits}
+use Rattle.kept.specs.Accepted.{acts, answer-accepted, next-accepted, open-below, passed, was-sound}
+use Rattle.kept.specs.Decisions.{asks}
+use Rattle.kept.specs.Events.{accepted-kept}
+use Rattle.kept.specs.Sound.Words.{SoundTable}
 
 pub next-kept : (n : ℕ) (t : Table) (e : Event) → Accepts n t e → SoundTable (next n t e)
 next-kept n t e ok = rw (next-accepted n t e ok) (accepted-kept n t e ok)

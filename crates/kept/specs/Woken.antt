@@ -1,14 +1,14 @@
 -- Whom an accepted event wakes, and what becomes of a wait.
-use Rattle.promises.specs.Prelude.{_&&_, _<_, Bool, Each, List, List·Memᴰ, List·Memᴰ·cases-cons, List·Memᴰ·not-nil, Release, Row, Table, Tick, [], about, accepted, and-not-self, and-right, ap, arith, cond, decLt, each-head, each-tail, eqb, eqb-false, false, false≢true, getD, getD-set-other, hasJob, idle, inl, inr, jobOf, keep, line, names, next, not, not-true, refl, row-settled, rowAfter, rowIn, rowOf, rowsWith, set, settled, subst, sweptRow, sym, tickOf, timeAt, true, true≢false, waiting, waiting-reads, wakes, woken, ℕ, _∙_, _∷_, _≡_, _≤_, _⊎_}
+use Rattle.kept.specs.Prelude.{_&&_, _<_, Bool, Each, List, List·Memᴰ, List·Memᴰ·cases-cons, List·Memᴰ·not-nil, Release, Row, Table, Tick, [], about, accepted, and-not-self, and-right, ap, arith, cond, decLt, each-head, each-tail, eqb, eqb-false, false, false≢true, getD, getD-set-other, hasJob, idle, inl, inr, jobOf, keep, line, names, next, not, not-true, refl, row-settled, rowAfter, rowIn, rowOf, rowsWith, set, settled, subst, sweptRow, sym, tickOf, timeAt, true, true≢false, waiting, waiting-reads, wakes, woken, ℕ, _∙_, _∷_, _≡_, _≤_, _⊎_}
 use Rattle.event.specs.declared.events.Event.{Event}
-use Rattle.promises.specs.Kept.Words.{Accepts, Decided, Swept, waits, Alike, Fate, same, acted, stayed}
-use Rattle.promises.specs.Kept.Accepted.{named-rests, next-accepted, next-tokens, was-sound}
-use Rattle.promises.specs.Kept.Changes.{alike-quiet}
-use Rattle.promises.specs.Kept.Decisions.{sweeps}
-use Rattle.promises.specs.Kept.Named.{next-kept}
-use Rattle.promises.specs.Kept.Rows.{alike-settled, decided-alike, waiting-alike}
-use Rattle.promises.specs.Sound.Words.{SoundTable}
-use Rattle.promises.specs.Sound.Facts.{not-idle, turns-given}
+use Rattle.kept.specs.Words.{Accepts, Decided, Swept, waits, Alike, Fate, same, acted, stayed}
+use Rattle.kept.specs.Accepted.{named-rests, next-accepted, next-tokens, was-sound}
+use Rattle.kept.specs.Changes.{alike-quiet}
+use Rattle.kept.specs.Decisions.{sweeps}
+use Rattle.kept.specs.Named.{next-kept}
+use Rattle.kept.specs.Rows.{alike-settled, decided-alike, waiting-alike}
+use Rattle.kept.specs.Sound.Words.{SoundTable}
+use Rattle.kept.specs.Sound.Facts.{not-idle, turns-given}
 
 -- ---- What becomes of a row
 
