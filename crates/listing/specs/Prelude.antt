@@ -1,5 +1,5 @@
 -- The names from outside that this crate's definitions and proofs use, passed on by one module.
-pub use Prim.Native.Nat.{_%_, _*_, _+_, _-_, _/_, _<_, _≤_, suc, zero, ℕ}
+pub use Prim.Native.Nat.{_*_, _+_, _-_, _<_, _≤_, suc, zero, ℕ}
 pub use mathlib.Core.Bool.{Bool, cond, false, false≢true, true}
 pub use mathlib.Core.List.{List, [], _++_, _∷_, append-assoc, append-nil}
 pub use mathlib.Core.Path.{_∙_, _≡_, ap, refl, subst, sym}
@@ -8,14 +8,14 @@ pub use native.Mathlib.Numerals.{add-one}
 pub use native.Mathlib.Omega.{arith}
 pub use borrow.Author.Needs.{needs}
 pub use borrow.Author.Tests.{le-leb, lt-leb}
-pub use lib.ListN.{drop, drop-of-length-le, getD, length, length-append, length-drop, take}
-pub use lib.Seq.{drop-append-le, take-append-le, take-append-seam, take-suc}
+pub use lib.ListN.{drop, drop-of-length-le, getD, length, length-drop, take}
+pub use lib.Seq.{take-append-seam, take-suc}
 pub use Rattle.laws.specs.Cases.{Outcome, fine, keepUnless, refused, unless}
 unfoldable pub use Rattle.laws.specs.Cases.{first, leaves, outcome}
 pub use Rattle.laws.specs.Determined.{determined}
 pub use Rattle.laws.specs.Front.{Wrote}
 unfoldable pub use Rattle.laws.specs.Front.{over}
-pub use Rattle.laws.specs.FrontLaws.{laid-front, then, wrote-length, wrote-none}
+pub use Rattle.laws.specs.FrontLaws.{laid-front, take-min, then, wrote-length, wrote-none}
 unfoldable pub use Rattle.laws.specs.Lists.{all, count}
 unfoldable pub use Rattle.laws.specs.Sets.{below, inside, meet, meets, union, without}
 pub use Rattle.decimal.specs.Determined.{text-determined}
@@ -46,9 +46,9 @@ pub use Rattle.arbiter.specs.declared.table.Next.{Next}
 pub use Rattle.arbiter.specs.declared.table.Table.{Table}
 pub use Rattle.record.specs.Format.{decode, readingOf, size}
 pub use Rattle.record.specs.FormatLaws.{decode-length}
-pub use Rattle.record.specs.Recording.{placeAfter, readings}
-pub use Rattle.record.specs.RecordingLaws.{drop-place, length-readings, place-moves, readings-cons, readings-nil, readings-some, take-min, take-place}
 pub use Rattle.record.specs.declared.reading.Reading.{Reading}
+pub use Rattle.recording.specs.Recording.{placeAfter, readings}
+pub use Rattle.recording.specs.RecordingLaws.{drop-place, length-readings, place-moves, readings-append, readings-cons, readings-nil, readings-some, take-place}
 pub use Rattle.listing.specs.declared.replay.Listed.{Listed}
 pub use Rattle.listing.specs.declared.replay.Replay.{Replay}
 pub use Rattle.listing.specs.declared.replay.Stage.{Stage}
