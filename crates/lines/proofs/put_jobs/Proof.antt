@@ -1,9 +1,9 @@
 -- The loop keeps: the jobs before place i are written, and each took at most four bytes.
-use Rattle.listing.specs.Prelude.{_*_, _+_, _-_, Wrote, arith, length, needs, refl, subst, take, then, wrote-length, wrote-none, ℕ, _∙_, _≡_, _≤_}
-use Rattle.listing.specs.Listing.{items}
-use Rattle.listing.proofs.Items.{items-more}
-use Rattle.listing.proofs.writing.put_jobs.Statement.{statement}
-use Rattle.listing.proofs.writing.put_jobs.Tie as tie
+use Rattle.lines.specs.Prelude.{_*_, _+_, _-_, Wrote, arith, length, needs, refl, subst, take, then, wrote-length, wrote-none, ℕ, _∙_, _≡_, _≤_}
+use Rattle.lines.specs.Lines.{items}
+use Rattle.lines.proofs.Items.{items-more}
+use Rattle.lines.proofs.put_jobs.Statement.{statement}
+use Rattle.lines.proofs.put_jobs.Tie as tie
 
 abbrev Inv-loop : tie.InvT-loop
 Inv-loop jobs count out₀ at end₀ i₀ out end i =

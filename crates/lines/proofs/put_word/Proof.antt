@@ -1,9 +1,9 @@
 -- Each answer's word; only a completion lists jobs.
-use Rattle.listing.specs.Prelude.{arith, needs}
-use Rattle.listing.specs.Listing.{items, wordText}
-use Rattle.listing.specs.Inner.{wordFrom}
-use Rattle.listing.proofs.writing.put_word.Statement.{statement}
-use Rattle.listing.proofs.writing.put_word.Tie as tie
+use Rattle.lines.specs.Prelude.{arith, needs}
+use Rattle.lines.specs.Lines.{items, wordText}
+use Rattle.lines.specs.Promises.{wordFrom}
+use Rattle.lines.proofs.put_word.Statement.{statement}
+use Rattle.lines.proofs.put_word.Tie as tie
 
 returns : tie.Need-returns
 unfolding wordFrom wordText items

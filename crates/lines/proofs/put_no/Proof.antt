@@ -1,8 +1,8 @@
 -- The word and at most ten digits.
-use Rattle.listing.specs.Prelude.{arith, length-text, needs}
-use Rattle.listing.specs.Listing.{wordText}
-use Rattle.listing.proofs.writing.put_no.Statement.{statement}
-use Rattle.listing.proofs.writing.put_no.Tie as tie
+use Rattle.lines.specs.Prelude.{arith, length-text, needs}
+use Rattle.lines.specs.Lines.{wordText}
+use Rattle.lines.proofs.put_no.Statement.{statement}
+use Rattle.lines.proofs.put_no.Tie as tie
 
 put-number-requires : tie.Need-put-number-requires
 put-number-requires c κs =

@@ -1,8 +1,8 @@
 -- The word and the jobs behind it.
-use Rattle.listing.specs.Prelude.{ap, arith, needs, take, take-min, then, ℕ, _∙_}
-use Rattle.listing.specs.Listing.{wordText}
-use Rattle.listing.proofs.writing.put_ok.Statement.{statement}
-use Rattle.listing.proofs.writing.put_ok.Tie as tie
+use Rattle.lines.specs.Prelude.{ap, arith, needs, take, take-min, then, ℕ, _∙_}
+use Rattle.lines.specs.Lines.{wordText}
+use Rattle.lines.proofs.put_ok.Statement.{statement}
+use Rattle.lines.proofs.put_ok.Tie as tie
 
 returns : tie.Need-returns
 unfolding wordText

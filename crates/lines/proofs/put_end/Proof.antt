@@ -1,8 +1,8 @@
 -- The live requests, the tokens in use and the line's end.
-use Rattle.listing.specs.Prelude.{arith, length-text, needs, then, wrote-length}
-use Rattle.listing.specs.Listing.{endLine}
-use Rattle.listing.proofs.writing.put_end.Statement.{statement}
-use Rattle.listing.proofs.writing.put_end.Tie as tie
+use Rattle.lines.specs.Prelude.{arith, length-text, needs, then, wrote-length}
+use Rattle.lines.specs.Lines.{endLine}
+use Rattle.lines.proofs.put_end.Statement.{statement}
+use Rattle.lines.proofs.put_end.Tie as tie
 
 put-number-requires : tie.Need-put-number-requires
 put-number-requires c κs =

@@ -1,7 +1,7 @@
 -- The word, and the digits behind it.
-use Rattle.listing.specs.Prelude.{arith, needs, then, wrote-length}
-use Rattle.listing.proofs.writing.put_number.Statement.{statement}
-use Rattle.listing.proofs.writing.put_number.Tie as tie
+use Rattle.lines.specs.Prelude.{arith, needs, then, wrote-length}
+use Rattle.lines.proofs.put_number.Statement.{statement}
+use Rattle.lines.proofs.put_number.Tie as tie
 
 put-requires : tie.Need-put-requires
 put-requires c κs = omega (arith, c .before .before .before .pre)

@@ -1,4 +1,4 @@
-// Text put into a lent buffer, piece by piece.
+// The lines of a listing, put into a lent buffer piece by piece.
 ghost use Prim.Native.Nat.{_+_, _*_, _≤_, min};
 ghost use mathlib.Core.List.{_++_};
 ghost use mathlib.Core.Path.{_≡_};
@@ -6,9 +6,8 @@ ghost use lib.ListN.{length, take};
 ghost use Rattle.arbiter.specs.Answers.{saidOf};
 ghost use Rattle.decimal.specs.Text.{ascii, text};
 ghost use Rattle.laws.specs.Front.{Wrote};
-ghost use Rattle.listing.specs.Inner.{wordFrom};
-ghost use Rattle.listing.specs.Listing.{endLine, items, line, no, ok, wordText};
-ghost use Rattle.listing.specs.Promises.{lineRoom, wordRoom};
+ghost use Rattle.lines.specs.Lines.{endLine, items, line, no, ok, wordText};
+ghost use Rattle.lines.specs.Promises.{lineRoom, wordFrom, wordRoom};
 use arbiter::Answer;
 use arbiter::Table;
 use decimal::put;
@@ -97,13 +96,7 @@ fn put_word(answer: Answer, woken: &[u8; JOBS], out: &mut [u8], at: usize) -> us
 }
 
 // Puts the line of a record.
-pub(crate) fn put_line(
-    number: u64,
-    answer: Answer,
-    woken: &[u8; JOBS],
-    out: &mut [u8],
-    at: usize,
-) -> usize
+pub fn put_line(number: u64, answer: Answer, woken: &[u8; JOBS], out: &mut [u8], at: usize) -> usize
     requires { ⌜ at + lineRoom ≤ length (now out) ⌝ }
     ensures { λ r. ⌜ Wrote (now (out .entry)) at (line number (wordFrom (saidOf answer) (now (woken .entry)))) r (now (out .exit)) ⌝ }
     ensures { λ r. ⌜ r ≤ at + lineRoom ⌝ }
@@ -121,7 +114,7 @@ fn tokens_in(tokens: u32, live: u32) -> u32
 }
 
 // Puts the last line at place `at`.
-pub(crate) fn put_end(table: Table, out: &mut [u8], at: usize) -> usize
+pub fn put_end(table: Table, out: &mut [u8], at: usize) -> usize
     requires { ⌜ at + lineRoom ≤ length (now out) ⌝ }
     ensures { λ r. ⌜ Wrote (now (out .entry)) at (endLine table) r (now (out .exit)) ⌝ }
 {

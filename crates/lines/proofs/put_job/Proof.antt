@@ -1,7 +1,7 @@
 -- A space and at most three digits.
-use Rattle.listing.specs.Prelude.{arith, length-text, needs}
-use Rattle.listing.proofs.writing.put_job.Statement.{statement}
-use Rattle.listing.proofs.writing.put_job.Tie as tie
+use Rattle.lines.specs.Prelude.{arith, length-text, needs}
+use Rattle.lines.proofs.put_job.Statement.{statement}
+use Rattle.lines.proofs.put_job.Tie as tie
 
 put-number-requires : tie.Need-put-number-requires
 put-number-requires c κs =

@@ -1,8 +1,8 @@
 -- The number, the word and the line's end.
-use Rattle.listing.specs.Prelude.{arith, length-text-u64, needs, then, wrote-length}
-use Rattle.listing.specs.Listing.{line}
-use Rattle.listing.proofs.writing.put_line.Statement.{statement}
-use Rattle.listing.proofs.writing.put_line.Tie as tie
+use Rattle.lines.specs.Prelude.{arith, length-text-u64, needs, then, wrote-length}
+use Rattle.lines.specs.Lines.{line}
+use Rattle.lines.proofs.put_line.Statement.{statement}
+use Rattle.lines.proofs.put_line.Tie as tie
 
 write-requires : tie.Need-write-requires
 write-requires c κs = omega (arith, length-text-u64 (c .before .before .args .number) (omega arith), c .before .before .pre)
