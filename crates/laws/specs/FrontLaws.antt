@@ -1,6 +1,21 @@
--- Laws of lists with a part written over.
-use Rattle.laws.specs.Prelude.{_+_, _++_, _<_, List, [], add-assoc, add-one, add-zero, ap, append-assoc, append-nil, append-snoc, arith, drop, drop-append-add, drop-append-le, drop-at, drop-drop, length, length-append, length-drop, length-take-le, refl, set, set-split, suc, sym, take, take-append-add, take-append-drop, take-append-le, take-at, take-set-le, zero-add, ℕ, _∙_, _∷_, _≡_, _≤_}
+-- Laws of the front of a list, and of lists with a part written over.
+use Rattle.laws.specs.Prelude.{_+_, _++_, _<_, List, [], add-assoc, add-one, add-zero, ap, append-assoc, append-nil, append-snoc, arith, decLe, drop, drop-append-add, drop-append-le, drop-at, drop-drop, drop-length, drop-of-length-le, length, length-append, length-drop, length-take-le, min, refl, set, set-split, suc, sym, take, take-all, take-append-add, take-append-drop, take-append-le, take-at, take-length, take-set-le, zero-add, ℕ, _∙_, _∷_, _≡_, _≤_}
 use Rattle.laws.specs.Front.{Wrote, laid, over}
+
+-- no further than the list goes is as good as further
+module _ {A : Type 0} (n : ℕ) (l : List A) where
+  at-most-length : (f : ℕ → List A) → (length l ≤ n → f (length l) ≡ f n) → f (min n (length l)) ≡ f n
+  at-most-length f past = go (decLe n (length l))
+    where
+      go : Dec (n ≤ length l) → f (min n (length l)) ≡ f n
+      go (yes h) = let e : min n (length l) ≡ n = omega arith in ap f e
+      go (no h) = let e : min n (length l) ≡ length l = omega arith in ap f e ∙ past (omega arith)
+
+  pub take-min : take (min n (length l)) l ≡ take n l
+  take-min = at-most-length (λ k. take k l) (λ h. take-length l ∙ sym (take-all n l h))
+
+  pub drop-min : drop (min n (length l)) l ≡ drop n l
+  drop-min = at-most-length (λ k. drop k l) (λ h. drop-length l ∙ sym (drop-of-length-le l h))
 
 module _ {A : Type 0} where
   pub laid-front : (out xs : List A) → laid out 0 xs ≡ over xs out

@@ -1,15 +1,14 @@
 -- The names from outside that this crate's definitions and proofs use, passed on by one module.
-pub use Prim.Native.Nat.{_%_, _*_, _+_, _-_, _/_, _<_, _≤_, suc, zero, ℕ}
+pub use Prim.Native.Nat.{_*_, _+_, _-_, _<_, _≤_, suc, zero, ℕ}
 pub use mathlib.Core.Bool.{Bool, cond, false, false≢true, true}
 pub use mathlib.Core.List.{List, [], _++_, _∷_, append-assoc, append-nil}
 pub use mathlib.Core.Path.{_∙_, _≡_, ap, refl, subst, sym}
 pub use native.Mathlib.Nat.{zero-add}
-pub use native.Mathlib.Numerals.{add-one}
 pub use native.Mathlib.Omega.{arith}
 pub use borrow.Author.Needs.{needs}
 pub use borrow.Author.Tests.{le-leb, lt-leb}
-pub use lib.ListN.{drop, drop-of-length-le, getD, length, length-append, length-drop, take}
-pub use lib.Seq.{drop-append-le, take-append-le, take-append-seam, take-suc}
+pub use lib.ListN.{drop, drop-of-length-le, length, length-drop, take}
+pub use lib.Seq.{take-append-seam}
 pub use Rattle.laws.specs.Cases.{Outcome, fine, keepUnless, refused, unless}
 unfoldable pub use Rattle.laws.specs.Cases.{first, leaves, outcome}
 pub use Rattle.laws.specs.Determined.{determined}
@@ -21,7 +20,6 @@ unfoldable pub use Rattle.laws.specs.Sets.{below, inside, meet, meets, union, w
 pub use Rattle.decimal.specs.Determined.{text-determined}
 pub use Rattle.decimal.specs.Text.{ascii}
 unfoldable pub use Rattle.decimal.specs.Text.{text}
-pub use Rattle.decimal.specs.TextLaws.{length-text, length-text-u64}
 pub use Rattle.event.specs.Limits.{jobs}
 pub use Rattle.event.specs.Refusals.{numberOf}
 pub use Rattle.event.specs.declared.clock.Tick.{Tick}
@@ -44,11 +42,15 @@ unfoldable pub use Rattle.arbiter.specs.Sound.{sound}
 pub use Rattle.arbiter.specs.declared.table.Answer.the-variants.{No}
 pub use Rattle.arbiter.specs.declared.table.Next.{Next}
 pub use Rattle.arbiter.specs.declared.table.Table.{Table}
+pub use Rattle.lines.specs.Lines.{Word, no, ok, waits}
+unfoldable pub use Rattle.lines.specs.Lines.{endLine, items, line, wordFor, wordText}
+pub use Rattle.lines.specs.Promises.{lineRoom}
+unfoldable pub use Rattle.lines.specs.Promises.{wordFrom}
 pub use Rattle.record.specs.Format.{decode, readingOf, size}
 pub use Rattle.record.specs.FormatLaws.{decode-length}
-pub use Rattle.record.specs.Recording.{placeAfter, readings}
-pub use Rattle.record.specs.RecordingLaws.{drop-place, length-readings, place-moves, readings-cons, readings-nil, readings-some, take-min, take-place}
 pub use Rattle.record.specs.declared.reading.Reading.{Reading}
+pub use Rattle.recording.specs.Recording.{placeAfter, readings}
+pub use Rattle.recording.specs.RecordingLaws.{drop-place, length-readings, place-moves, readings-append, readings-cons, readings-nil, readings-some, take-place}
 pub use Rattle.listing.specs.declared.replay.Listed.{Listed}
 pub use Rattle.listing.specs.declared.replay.Replay.{Replay}
 pub use Rattle.listing.specs.declared.replay.Stage.{Stage}

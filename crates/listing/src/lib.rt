@@ -1,6 +1,5 @@
 // The text of a replay, byte for byte: a line for each record of a recording, and the last line.
 mod replay;
-mod writing;
 
 pub use replay::LINE;
 pub use replay::Listed;

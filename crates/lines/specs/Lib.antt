@@ -1,0 +1,4 @@
+-- What a line says, and what the contracts of this crate say.
+pub mod Lines
+pub mod Prelude
+pub mod Promises
