@@ -1,4 +1,4 @@
--- Laws that several proofs cite.
-pub mod Arrays
+-- Laws that the proofs of single functions need.
 pub mod Answering
-pub mod Verdicts
+pub mod Arrays
+pub mod Surveys

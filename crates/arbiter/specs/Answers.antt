@@ -1,4 +1,5 @@
 -- What each case of an answer says: the number of a refusal, or its values.
+use Rattle.arbiter.specs.Prelude.{Count, No}
 use Prim.Native.Nat.{ℕ}
 use Rattle.event.specs.Refusals.{numberOf}
 use Rattle.laws.specs.Cases.{Outcome, refused, fine}

@@ -1,8 +1,11 @@
 -- What is promised determines what is handed back, and what is left in what was lent.
-use Rattle.arbiter.specs.Prelude.{Answer, Event, Late, List, Next, Outcome, Reported, Table, answerBy, ap, determined, refl, refusalOf-numberOf, told-apart, ℕ, _≡_}
+use Rattle.arbiter.specs.Prelude.{Answer, Change, Count, Event, Late, List, Next, No, Outcome, Reported, Table, _≡_, answerBy, ap, determined, refl, refusalOf-numberOf, told-apart, ℕ}
 use Rattle.arbiter.specs.Answers.{Said, lateOf, reportOf, saidOf, saysDone, saysGranted, saysToken, saysWait, saysWoke}
-use Rattle.arbiter.specs.Effects.{Completes, Does}
+use Rattle.arbiter.specs.Effects.{Does}
 use Rattle.arbiter.specs.Promises.{Answered, AnsweredInto, ReportAnswered, Started, OverdueAnswered}
+use Rattle.arbiter.specs.Changes.{decided}
+use Rattle.arbiter.specs.declared.deciding.Decision.{Decision}
+use Rattle.arbiter.specs.declared.deciding.Decision.the-variants as Decisions
 use Rattle.arbiter.specs.declared.table.Answer.the-variants as Answers
 use Rattle.arbiter.specs.declared.table.Late.the-variants as Lates
 use Rattle.arbiter.specs.declared.table.Reported.the-variants as Reporteds
@@ -69,7 +72,9 @@ late-determined p q = (told-apart lateOf (answerBy Lates.No Lates.Count) late-sa
 pub does-determined : {said : Said} {t : Table} {r r′ : Next} → Does said t r → Does said t r′ → r ≡ r′
 does-determined p q = same-next (p .says) (q .says) (p .hands) (q .hands)
 
-pub completes-determined :
-    {t : Table} {k time : ℕ} {before after after′ : List ℕ} {r r′ : Next} → Completes t k time before r after →
-    Completes t k time before r′ after′ → (r ≡ r′) × (after ≡ after′)
-completes-determined p q = (does-determined (p .does) (q .does), determined (p .lists) (q .lists))
+decision-said : (d : Decision) → answerBy Decisions.No Decisions.Goes (decided d) ≡ d
+decision-said (Decisions.No r) = ap Decisions.No (refusalOf-numberOf r)
+decision-said (Decisions.Goes c) = refl
+
+pub decision-determined : {o : Outcome Change} {d d′ : Decision} → decided d ≡ o → decided d′ ≡ o → d ≡ d′
+decision-determined = told-apart decided (answerBy Decisions.No Decisions.Goes) decision-said

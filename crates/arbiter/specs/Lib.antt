@@ -1,6 +1,7 @@
 -- What the calls mean: document 01, from "What a table holds" to "Refusal numbers".
 pub mod Answers
-pub mod ByStanding
+pub mod Changes
+pub mod ChangeLaws
 pub mod Determined
 pub mod Effects
 pub mod Meaning
@@ -11,4 +12,3 @@ pub mod Readings
 pub mod RefusalLaws
 pub mod Refusals
 pub mod Sound
-pub mod Verdicts

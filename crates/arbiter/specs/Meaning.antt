@@ -1,8 +1,7 @@
 -- What an accepted call does, as document 01 words it under "The events"; a refused one changes nothing.
-use Prim.Native.Nat.{ℕ, _+_, _-_}
-use mathlib.Core.Bool.{Bool, cond, _&&_}
+use Prim.Native.Nat.{ℕ, _+_}
+use mathlib.Core.Bool.{cond}
 use mathlib.Core.List.{List, [], _∷_}
-use lib.Dec.{leb}
 use lib.ListN.{length, replicate, set}
 use Rattle.event.specs.Clock.{difference}
 use Rattle.event.specs.Events.{about, hasJob, jobOf, opens, tickOf}
@@ -10,12 +9,12 @@ use Rattle.event.specs.declared.events.Event.{Event}
 use Rattle.event.specs.declared.events.Event.the-variants.{Beat, Open, Ask, Release, Complete}
 use Rattle.laws.specs.Cases.{Outcome, leaves, outcome}
 use Rattle.laws.specs.Front.{over}
-use Rattle.laws.specs.Sets.{union, without}
-use Rattle.rows.specs.Line.{keep, line, rowOf}
 use Rattle.event.specs.Limits.{jobs}
 use Rattle.rows.specs.Order.{ahead, blocked, idle, inWay, token, waiting}
 use Rattle.rows.specs.Sweep.{settled, woken}
 use Rattle.rows.specs.declared.row.Row.{Row}
+use Rattle.request.specs.Change.{asking, opening, releasing}
+use Rattle.sweep.specs.Late.{lateIn}
 use Rattle.arbiter.specs.Answers.{Said, saysDone, saysGranted, saysToken, saysWait, saysWoke}
 use Rattle.arbiter.specs.Sound.{rowIn}
 use Rattle.arbiter.specs.Refusals.{cases, overdueCases, reportCases, startCases}
@@ -28,28 +27,13 @@ use Rattle.arbiter.specs.declared.table.Table.{Table}
 abbrev pub timeAt : Table → ℕ → ℕ
 timeAt t tick = t .time + difference (t .time) tick
 
--- a request opened at a time: the next turn, and a wait from then on if it has no token
+-- a request opened at a time
 abbrev pub openedRow : Table → ℕ → ℕ → Row
-openedRow t time s =
-    record {
-      turn = record { 0 = t .last .0 + 1 };
-      declared = s;
-      held = 0;
-      asked = 0;
-      since = cond (token (t .tokens) (t .rows) (t .last .0 + 1)) 0 time;
-    }
+openedRow t time s = opening (t .last .0) (token (t .tokens) (t .rows) (t .last .0 + 1)) time s
 
--- Q3: where no live row of lower turn declares a member all of the set is held, else all of it is asked, from this time on
+-- an ask: Q3 forbids the set where a live row of lower turn declares a member
 abbrev pub askedRow : Table → Row → ℕ → ℕ → Row
-askedRow t r time s =
-    cond (blocked (t .rows) (r .turn .0) s)
-    (record { turn = r .turn; declared = r .declared; held = r .held; asked = s; since = time })
-    (record { turn = r .turn; declared = r .declared; held = union (r .held) s; asked = r .asked; since = r .since })
-
--- a release takes the members out of the held set and leaves the declared set alone
-abbrev pub releasedRow : Row → ℕ → Row
-releasedRow r s =
-    record { turn = r .turn; declared = r .declared; held = without (r .held) s; asked = r .asked; since = r .since }
+askedRow t r time s = asking r (blocked (t .rows) (r .turn .0) s) time s
 
 -- ---- Accepted events
 
@@ -70,7 +54,7 @@ abbrev pub rowAfter : Table → ℕ → Event → Row → Row
 rowAfter t time (Beat tick) r = r
 rowAfter t time (Open j tick s) r = openedRow t time s
 rowAfter t time (Ask j tick s) r = askedRow t r time s
-rowAfter t time (Release j tick s) r = releasedRow r s
+rowAfter t time (Release j tick s) r = releasing r s
 rowAfter t time (Complete j tick) r = idle
 
 -- the rows with that row in its place; the event of nobody changes none
@@ -163,13 +147,9 @@ reported t r =
 unfoldable pub report : Table → ℕ → Outcome Report
 report t j = outcome (reportCases t j) (reported t (rowIn t j))
 
--- the job waits, and its wait up to this time is the limit or more
-abbrev pub lateJob : ℕ → ℕ → ℕ → List Row → ℕ → Bool
-lateJob T limit time rows j = waiting T rows (rowOf rows j) && leb limit (time - rowOf rows j .since)
-
 -- the waiting jobs whose wait up to this time is the limit or more, in order of turn
-unfoldable pub lateAt : Table → ℕ → List ℕ
-lateAt t time = keep (lateJob (t .tokens) (t .limit) time (t .rows)) (line (t .rows))
+abbrev pub lateAt : Table → ℕ → List ℕ
+lateAt t time = lateIn (t .tokens) (t .limit) time (t .rows)
 
 -- the same up to this tick; no clock moves
 abbrev pub late : Table → ℕ → List ℕ

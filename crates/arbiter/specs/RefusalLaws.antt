@@ -1,5 +1,5 @@
 -- The numbers of each call's cases ascend, so the first that applies is the lowest.
-use Rattle.arbiter.specs.Prelude.{_++_, Event, Table, [], all, ascending, ascends, refusalsOf, casesBy, cond, described, every-kind, jobOf, kindOf, refl, setOf, tickOf, true, ℕ, _≡_}
+use Rattle.arbiter.specs.Prelude.{Event, Table, [], _++_, _≡_, all, ascending, ascends, casesBy, cond, described, every-kind, jobOf, kindOf, refl, refusalsOf, setOf, tickOf, true, ℕ}
 use Rattle.arbiter.specs.Refusals.{cases, startCases, reportCases, overdueCases, applies, calling, listCases}
 
 -- tried on each kind, by computing

@@ -1,64 +1,31 @@
--- Sound tables, condition by condition in the order of document 01, "What a table holds".
-use Prim.Native.Nat.{ℕ, _-_, _^_}
+-- Sound tables, condition by condition in the order of document 01, "What a table holds". What its numbers and single rows
+-- meet by themselves stands in `request`'s Conditions.
+use Prim.Native.Nat.{ℕ}
 use mathlib.Core.Bool.{Bool, cond, not, _&&_}
 use mathlib.Core.List.{List, [], _∷_, _++_}
 use lib.Dec.{eqb, leb, ltb}
-use Rattle.event.specs.Limits.{highest, most}
 use Rattle.laws.specs.Bools.{implies}
 use Rattle.laws.specs.Lists.{all, holds}
-use Rattle.laws.specs.Sets.{below, inside, meets}
+use Rattle.laws.specs.Sets.{below}
 use Rattle.rows.specs.Line.{rowOf}
 use Rattle.rows.specs.Order.{blocked, distinct, live, token, waiting}
 use Rattle.rows.specs.declared.row.Row.{Row}
+pub use Rattle.request.specs.Conditions.{askedDeclared, counters, declaresSome, heldDeclared, heldNotAsked, idleConditions, ranges, within}
 use Rattle.arbiter.specs.declared.table.Table.{Table}
-
--- n lies between two numbers, both included
-abbrev pub within : ℕ → ℕ → ℕ → Bool
-within low high n = leb low n && leb n high
 
 -- the row of a job
 abbrev pub rowIn : Table → ℕ → Row
 rowIn t j = rowOf (t .rows) j
 
--- ---- The numbers of a table
-
--- T, R and the limit in range
-abbrev pub ranges : ℕ → ℕ → ℕ → List Bool
-ranges T R limit = within 1 most T ∷ within 1 most R ∷ within 1 (2 ^ 32 - 1) limit ∷ []
-
--- true time and the last turn at most 2^63-1
-abbrev pub counters : ℕ → ℕ → List Bool
-counters time last = leb time highest ∷ leb last highest ∷ []
-
--- ---- Its rows; r is a row of table t
-
--- an idle row is zero
-abbrev pub idleConditions : Row → List Bool
-idleConditions r = eqb (r .declared) 0 ∷ eqb (r .held) 0 ∷ eqb (r .asked) 0 ∷ eqb (r .since) 0 ∷ []
+-- ---- The rows of a table; r is one of table t
 
 -- its turn is at most the last turn; that it is unlike any other live turn is `distinct`
 abbrev pub turnGiven : Table → Row → Bool
 turnGiven t r = leb (r .turn .0) (t .last .0)
 
--- its declared set is not empty
-abbrev pub declaresSome : Row → Bool
-declaresSome r = ltb 0 (r .declared)
-
--- and within R
+-- its declared set lies within R
 abbrev pub declaredInRange : Table → Row → Bool
 declaredInRange t r = below (r .declared) (t .resources)
-
--- held inside declared
-abbrev pub heldDeclared : Row → Bool
-heldDeclared r = inside (r .held) (r .declared)
-
--- asked inside declared
-abbrev pub askedDeclared : Row → Bool
-askedDeclared r = inside (r .asked) (r .declared)
-
--- held and asked disjoint
-abbrev pub heldNotAsked : Row → Bool
-heldNotAsked r = not (meets (r .held) (r .asked))
 
 -- it has a token
 abbrev pub tokenOf : Table → Row → Bool

@@ -1,36 +1,45 @@
 // The calls: start, the five events and the two questions. An event takes the table by value and returns the next.
-ghost use Rattle.event.specs.declared.events.Event.the-variants.{Ask, Beat, Complete, Open, Release};
+ghost use Prim.Native.Nat.{_<_, _^_};
+ghost use mathlib.Core.Bool.{false, true};
+ghost use mathlib.Core.Path.{_≡_};
+ghost use lib.ListN.{set};
+ghost use Rattle.event.specs.Events.{about};
 ghost use Rattle.event.specs.Limits.{jobs};
-ghost use Rattle.arbiter.specs.Promises.{Answered, AnsweredInto, ReportAnswered, Started, OverdueAnswered};
+ghost use Rattle.event.specs.declared.events.Event.the-variants.{Ask, Beat, Complete, Open, Release};
+ghost use Rattle.arbiter.specs.ChangeLaws.{Decides, Finds};
+ghost use Rattle.arbiter.specs.Changes.{boundsOf};
 ghost use Rattle.arbiter.specs.Effects.{Refuses};
-use crate::effect::asked;
-use crate::effect::completed;
-use crate::effect::listed_late;
-use crate::effect::moved;
-use crate::effect::opened;
-use crate::effect::released;
-use crate::effect::reported;
-use crate::sound::in_range;
-use crate::sound::is_sound;
+ghost use Rattle.arbiter.specs.Meaning.{moved};
+ghost use Rattle.arbiter.specs.Promises.{Answered, AnsweredInto, OverdueAnswered, ReportAnswered, Started};
+use crate::deciding::Decision;
+use crate::deciding::decide;
 use crate::table::Answer;
 use crate::table::Late;
 use crate::table::Next;
+use crate::table::Report;
 use crate::table::Reported;
 use crate::table::Table;
-use crate::verdict::act_verdict;
-use crate::verdict::ask_verdict;
-use crate::verdict::clock_verdict;
-use crate::verdict::open_verdict;
-use crate::verdict::release_verdict;
 use event::Event;
 use event::JOBS;
 use event::Moment;
 use event::Refusal;
 use event::Tick;
+use event::parts_of;
+use laws::sets;
+use pass::Survey;
+use pass::survey;
+use request::Bounds;
+use request::clock_verdict;
+use request::complete_verdict;
+use request::in_range;
+use rows::Row;
 use rows::Turn;
 use rows::idle;
 use rows::live;
-use rows::survey;
+use rows::waiting;
+use sweep::completed;
+use sweep::in_way;
+use sweep::list_late;
 
 // The refusal, and the table as it was.
 fn refused(t: Table, refusal: Refusal) -> Next
@@ -39,6 +48,77 @@ fn refused(t: Table, refusal: Refusal) -> Next
     Next {
         answer: Answer::No(refusal),
         table: t,
+    }
+}
+
+// The numbers of a table.
+fn bounds(t: Table) -> Bounds
+    ensures { λ b. ⌜ b ≡ boundsOf t ⌝ }
+{
+    let last = t.last;
+    Bounds {
+        tokens: t.tokens,
+        resources: t.resources,
+        limit: t.limit,
+        time: t.time,
+        last,
+    }
+}
+
+// The table at this time with this last turn and rows.
+fn moved(t: Table, time: u64, last: Turn, rows: [Row; JOBS]) -> Table
+    ensures { λ r. ⌜ r ≡ moved t time (last .0) rows ⌝ }
+{
+    Table {
+        tokens: t.tokens,
+        resources: t.resources,
+        limit: t.limit,
+        time,
+        last,
+        rows,
+    }
+}
+
+// The table at this time with this last turn, and with this row for job k.
+fn with_row(t: Table, time: u64, last: Turn, k: usize, row: Row) -> Table
+    requires { ⌜ k < jobs ⌝ }
+    ensures { λ r. ⌜ r ≡ moved t time (last .0) (set (t .rows) k row) ⌝ }
+{
+    let mut rows = t.rows;
+    rows[k] = row;
+    moved(t, time, last, rows)
+}
+
+// What an event comes to on a table that was surveyed for it.
+fn found(s: Survey, tokens: u32, event: Event) -> Decision
+    requires { ⌜ (s .seen .sound ≡ true → s .seen .last .0 < 2 ^ 63) ⌝ }
+    ensures { λ d. ⌜ Finds s tokens event d ⌝ }
+{
+    let parts = parts_of(event);
+    let seen = s.seen;
+    let standing = s.standing;
+    let line = s.line;
+    let forbidden = sets::meets(standing.claims, parts.set);
+    decide(event, seen, forbidden, line.len < tokens as usize)
+}
+
+// An event that wakes nobody, carried out as decided: it is refused, or one row is written.
+fn written(t: Table, event: Event, decision: Decision) -> Next
+    requires { ⌜ (about event .wakes ≡ false) × Decides t event decision ⌝ }
+    ensures { λ r. ⌜ Answered jobs t event r ⌝ }
+{
+    match decision {
+        Decision::No(refusal) => refused(t, refusal),
+        Decision::Goes(change) => {
+            let parts = parts_of(event);
+            let answer = change.answer;
+            let last = change.last;
+            let row = change.row;
+            Next {
+                answer,
+                table: with_row(t, change.time, last, parts.job as usize, row),
+            }
+        }
     }
 }
 
@@ -78,58 +158,52 @@ impl Table {
     pub fn beat(self, tick: Tick) -> Next
         ensures { λ r. ⌜ Answered jobs self (Beat tick) r ⌝ }
     {
+        let event = Event::Beat(tick);
         let rows = self.rows;
-        let known = survey(rows);
-        let verdict = clock_verdict(self, known, tick);
-        match verdict {
-            Moment::No(refusal) => refused(self, refusal),
-            Moment::At(time) => {
-                let last = self.last;
-                Next {
-                    answer: Answer::Done,
-                    table: moved(self, time, last, rows),
-                }
-            }
-        }
+        let s = survey(rows, bounds(self), 0);
+        written(self, event, found(s, self.tokens, event))
     }
 
     // The job has a request with the next turn and this declared set.
     pub fn open(self, job: u32, tick: Tick, declared: u64) -> Next
         ensures { λ r. ⌜ Answered jobs self (Open job tick declared) r ⌝ }
     {
+        let event = Event::Open {
+            job,
+            tick,
+            set: declared,
+        };
         let rows = self.rows;
-        let known = survey(rows);
-        let verdict = open_verdict(self, known, job, tick, declared);
-        match verdict {
-            Moment::No(refusal) => refused(self, refusal),
-            Moment::At(time) => opened(self, job as usize, time, declared),
-        }
+        let s = survey(rows, bounds(self), job);
+        written(self, event, found(s, self.tokens, event))
     }
 
     // The whole set is held if Q3 allows it, else the whole set is asked.
     pub fn ask(self, job: u32, tick: Tick, wanted: u64) -> Next
         ensures { λ r. ⌜ Answered jobs self (Ask job tick wanted) r ⌝ }
     {
+        let event = Event::Ask {
+            job,
+            tick,
+            set: wanted,
+        };
         let rows = self.rows;
-        let known = survey(rows);
-        let verdict = ask_verdict(self, known, job, tick, wanted);
-        match verdict {
-            Moment::No(refusal) => refused(self, refusal),
-            Moment::At(time) => asked(self, known, job as usize, time, wanted),
-        }
+        let s = survey(rows, bounds(self), job);
+        written(self, event, found(s, self.tokens, event))
     }
 
     // The members leave the held set; the declared set is left alone.
     pub fn release(self, job: u32, tick: Tick, members: u64) -> Next
         ensures { λ r. ⌜ Answered jobs self (Release job tick members) r ⌝ }
     {
+        let event = Event::Release {
+            job,
+            tick,
+            set: members,
+        };
         let rows = self.rows;
-        let known = survey(rows);
-        let verdict = release_verdict(self, known, job, tick, members);
-        match verdict {
-            Moment::No(refusal) => refused(self, refusal),
-            Moment::At(time) => released(self, job as usize, time, members),
-        }
+        let s = survey(rows, bounds(self), job);
+        written(self, event, found(s, self.tokens, event))
     }
 
     // The row becomes idle, and whoever can go on goes on: their jobs are written to the lent list in order of turn.
@@ -140,11 +214,21 @@ impl Table {
             return refused(self, Refusal::ShortList);
         }
         let rows = self.rows;
-        let known = survey(rows);
-        let verdict = act_verdict(self, known, job, tick);
+        let s = survey(rows, bounds(self), job);
+        let seen = s.seen;
+        let verdict = complete_verdict(seen, job, tick);
         match verdict {
             Moment::No(refusal) => refused(self, refusal),
-            Moment::At(time) => completed(self, known, job as usize, time, woken),
+            Moment::At(time) => {
+                let line = s.line;
+                let last = self.last;
+                let swept = completed(rows, line, bounds(self), job as usize, woken);
+                let after = swept.rows;
+                Next {
+                    answer: Answer::Woke(swept.count),
+                    table: moved(self, time, last, after),
+                }
+            }
         }
     }
 
@@ -166,18 +250,28 @@ impl Table {
         ensures { λ r. ⌜ ReportAnswered self job r ⌝ }
     {
         let rows = self.rows;
-        let known = survey(rows);
-        if !is_sound(self, known) {
+        let s = survey(rows, bounds(self), job);
+        let seen = s.seen;
+        if !seen.sound {
             return Reported::No(Refusal::UnsoundTable);
         }
         if JOBS as u32 <= job {
             return Reported::No(Refusal::NoSuchJob);
         }
-        let row = rows[job as usize];
+        let row = seen.row;
         if !live(row) {
             return Reported::No(Refusal::NotLive);
         }
-        Reported::Is(reported(self, known, job as usize))
+        let standing = s.standing;
+        let line = s.line;
+        let turn = row.turn;
+        Reported::Is(Report {
+            turn,
+            token: seen.token,
+            waiting: waiting(row, standing, self.tokens),
+            ahead: standing.ahead,
+            in_way: in_way(rows, line, turn, row.declared),
+        })
     }
 
     // The jobs whose wait is the limit or more, written to the lent list in order of turn; no clock moves.
@@ -188,11 +282,15 @@ impl Table {
             return Late::No(Refusal::ShortList);
         }
         let rows = self.rows;
-        let known = survey(rows);
-        let verdict = clock_verdict(self, known, tick);
+        let s = survey(rows, bounds(self), 0);
+        let seen = s.seen;
+        let verdict = clock_verdict(seen, tick);
         match verdict {
             Moment::No(refusal) => Late::No(refusal),
-            Moment::At(time) => Late::Count(listed_late(self, known, time, late)),
+            Moment::At(time) => {
+                let line = s.line;
+                Late::Count(list_late(rows, line, bounds(self), time, late))
+            }
         }
     }
 }

@@ -1,9 +1,7 @@
 // The arbiter: a table of locking requests, the events that change it and the questions about it.
 mod calls;
-mod effect;
-mod sound;
+mod deciding;
 mod table;
-mod verdict;
 
 pub use table::Answer;
 pub use table::Late;

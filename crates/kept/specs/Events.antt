@@ -1,5 +1,5 @@
 -- Every accepted event leaves a sound table.
-use Rattle.kept.specs.Prelude.{_+_, _-_, _<_, Ask, Beat, Bool, Complete, List, Open, Release, Row, Table, Tick, _^_, accepted, ahead, ahead-set, ap, arith, askedRow, at-set, below, case, cond, decLe, distinct-rows, distinct-set, distinct-settled, distinct-test, eqb-false, false, idle, in-way-empty, in-way-inside, in-way-set, inside, inside-empty, inside-trans, le-refl, length, live-within, lt-irrefl, lt-ltb, ltb-false, meets, meets-comm, meets-empty, meets-inside, moved, not-false, openedRow, refl, releasedRow, row-settled, rowIn, set, set-out, settled, swept-idle, sweptRow, sym, timeAt, token, true, waiting, waiting-reads, without, without-inside, without-le, ℕ, _∙_, _≡_, _≢_, _≤_}
+use Rattle.kept.specs.Prelude.{_+_, _-_, _<_, Ask, Beat, Bool, Complete, List, Open, Release, Row, Table, Tick, _^_, accepted, ahead, ahead-set, ap, arith, askedRow, at-set, below, case, cond, decLe, distinct-rows, distinct-set, distinct-settled, distinct-test, eqb-false, false, idle, in-way-empty, in-way-inside, in-way-set, inside, inside-empty, inside-trans, le-refl, length, live-within, lt-irrefl, lt-ltb, ltb-false, meets, meets-comm, meets-empty, meets-inside, moved, not-false, openedRow, refl, releasing, row-settled, rowIn, set, set-out, settled, swept-idle, sweptRow, sym, timeAt, token, true, waiting, waiting-reads, without, without-inside, without-le, ℕ, _∙_, _≡_, _≢_, _≤_}
 use Rattle.event.specs.declared.events.Event.{Event}
 use Rattle.kept.specs.Words.{Accepts, Acts, Asked, Decided, Swept, grants, waits, Alike, Clearer, NoEarlier}
 use Rattle.kept.specs.Accepted.{acts, open-idle, passed, was-sound}
@@ -138,9 +138,9 @@ module _ (t : Table) (tick : Tick) (p : SoundTable t) (in-time : timeAt t (tick 
       let r = rowIn t j in
       let q = p .rows j .lives alive in
       let part = without-inside (r .held) s in
-      let alike = alike-kept (t .rows) j (releasedRow r s) (r .turn .0) h refl refl in
-      let c = carried (onward (t .last .0) (set (t .rows) j (releasedRow r s)) (le-refl _)) alike q in
-      acted-kept j (releasedRow r s) alive refl refl
+      let alike = alike-kept (t .rows) j (releasing r s) (r .turn .0) h refl refl in
+      let c = carried (onward (t .last .0) (set (t .rows) j (releasing r s)) (le-refl _)) alike q in
+      acted-kept j (releasing r s) alive refl refl
       (record {
         given = c .given;
         declares = c .declares;

@@ -1,5 +1,5 @@
 -- What accepted events do and never do, by name.
-use Rattle.kept.specs.Prelude.{_+_, _<_, Ask, Bool, InTheWay, Open, Release, Row, Table, Tick, acceptance-tells, accepted, and-false, answer, ap, arith, askedRow, blocked, case, cases, cond, false, fine, getD-set-same, idle, in-way-at, inWay, inside, inside-reads, inside-trans, jobs, length, live-within, lt-ltb, ltb-true, meets-reads, member, member-without, next, not, not-false, openedRow, refl, releasedRow, rowIn, said, timeAt, token, true, without, ℕ, _∙_, _≡_}
+use Rattle.kept.specs.Prelude.{_+_, _<_, Ask, Bool, InTheWay, Open, Release, Row, Table, Tick, acceptance-tells, accepted, and-false, answer, ap, arith, askedRow, blocked, case, cases, cond, false, fine, getD-set-same, idle, in-way-at, inWay, inside, inside-reads, inside-trans, jobs, length, live-within, lt-ltb, ltb-true, meets-reads, member, member-without, next, not, not-false, openedRow, refl, releasing, rowIn, said, timeAt, token, true, without, ℕ, _∙_, _≡_}
 use Rattle.event.specs.declared.events.Event.{Event}
 use Rattle.arbiter.specs.Answers as Answers
 use Rattle.kept.specs.Words.{Accepts, Asked, Decided, grants, waits}
@@ -74,10 +74,10 @@ ask-waits-from-now n t j tick s e =
 -- ---- Release
 
 module _ (n : ℕ) (t : Table) (j : ℕ) (tick : Tick) (s : ℕ) (ok : Accepts n t (Release j tick s)) where
-  released : rowIn (next n t (Release j tick s)) j ≡ releasedRow (rowIn t j) s
+  released : rowIn (next n t (Release j tick s)) j ≡ releasing (rowIn t j) s
   released =
       ap (λ (u : Table). rowIn u j) (next-accepted n t (Release j tick s) ok)
-      ∙ getD-set-same (t .rows) j (releasedRow (rowIn t j) s) idle (live-within (t .rows) j (acts n t (Release j tick s) ok refl .alive))
+      ∙ getD-set-same (t .rows) j (releasing (rowIn t j) s) idle (live-within (t .rows) j (acts n t (Release j tick s) ok refl .alive))
 
   -- a release leaves the declared set whole
   pub release-keeps-declared : rowIn (next n t (Release j tick s)) j .declared ≡ rowIn t j .declared

@@ -48,9 +48,10 @@ unfoldable pub use Rattle.rows.specs.Sweep.{settled, woken}
 pub use Rattle.rows.specs.SweepLaws.{ahead-settled, distinct-settled, in-way-settled, length-settled, row-settled, swept-idle, swept-keeps}
 pub use Rattle.rows.specs.Turns.{at-set, bears-own, bears-turn, distinct-at, distinct-rows, distinct-set, distinct-test, earlier-turn, live-within, not-earlier, turn-earlier, waiting-reads}
 pub use Rattle.rows.specs.declared.row.Row.{Row}
-pub use Rattle.arbiter.specs.Meaning.{accepted, askedRow, freshTable, late, moved, noTable, openedRow, releasedRow, reported, rowAfter, rowsWith, run, said, timeAt, wakes}
+pub use Rattle.arbiter.specs.Meaning.{accepted, askedRow, freshTable, late, moved, noTable, openedRow, reported, rowAfter, rowsWith, run, said, timeAt, wakes}
 unfoldable pub use Rattle.arbiter.specs.Meaning.{answer, course, next, overdue, report, startAnswer, startTable}
 pub use Rattle.arbiter.specs.Refusals.{Call, applies, calling, cases, listCases, startCases}
 pub use Rattle.arbiter.specs.Sound.{counters, idleConditions, ownConditions, placeConditions, ranges, rowIn, soundRow, waitingIn, within}
 unfoldable pub use Rattle.arbiter.specs.Sound.{sound}
 pub use Rattle.arbiter.specs.declared.table.Table.{Table}
+pub use Rattle.request.specs.Change.{releasing}

@@ -13,6 +13,12 @@ and-left false b e = e
 pub and-right : (a b : Bool) → (a && b) ≡ true → b ≡ true
 and-right a b e = and-left b a (and-comm b a ∙ e)
 
+-- tests that hold together are equal
+pub same : (a b : Bool) → (a ≡ true → b ≡ true) → (b ≡ true → a ≡ true) → a ≡ b
+same true b f g = sym (f refl)
+same false true f g = g refl
+same false false f g = refl
+
 pub not-ltb : (a b : ℕ) → not (ltb a b) ≡ leb b a
 not-ltb a b = go (ltb a b) refl
   where

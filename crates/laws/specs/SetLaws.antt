@@ -1,5 +1,6 @@
 -- Laws of sets as numbers, for numbers of any size, so for every width at once.
 use Rattle.laws.specs.Prelude.{_%_, _&&_, _+_, _-_, _/_, _<_, Bool, _^_, add-sub-of-le, and-assoc, and-comm, and-eq-true-iff, and-le-l, and-le-r, and-mod, and-or-distrib-left, and-self, and-self-left, and-shr, ap, arith, bin-ind, bitAnd, bitOr, bitXor, div-eq-of-lt, eq-eqb, eqb, eqb-false, eqb-true, false, le-add-right, le-div-iff-mul-le, le-zero, lt-ltb, ltb, ltb-false, ltb-true, mod-lt, ne-eqb, not, not-true, or-add-and, or-assoc, or-comm, or-false, or-mod, or-self, or-shr, pow-pos, refl, shr-shr, suc, sym, true, true≢false, xor, xor-add-and, xor-mod, xor-shr, zero, zero-div, _||_, ℕ, _↔_, _∙_, _≡_, _≤_}
+use Rattle.laws.specs.BoolLaws.{same}
 use Rattle.laws.specs.Reads.{Reads}
 use Rattle.laws.specs.ReadsLaws.{reading}
 use Rattle.laws.specs.Sets.{member, meet, union, without, meets, inside, below}
@@ -209,6 +210,14 @@ some-union (suc s) t =
     rw (lt-ltb 0 (suc s) (omega arith))
     (lt-ltb 0 (union (suc s) t) (omega (arith, or-add-and (suc s) t, and-le-r (suc s) t)))
 
+-- a union is empty where both are
+pub union-none : (s t : ℕ) → eqb (union s t) 0 ≡ (eqb s 0 && eqb t 0)
+unfolding union
+union-none zero t = refl
+union-none (suc s) t =
+    rw (ne-eqb (suc s) 0 (omega arith))
+    (ne-eqb (union (suc s) t) 0 (omega (arith, or-add-and (suc s) t, and-le-r (suc s) t)))
+
 pub meets-union : (s t u : ℕ) → meets s (union t u) ≡ (meets s t || meets s u)
 unfolding meets
 meets-union s t u = rw meet-union (some-union (meet s t) (meet s u))
@@ -231,6 +240,13 @@ inside-union s t u = (
       eq-eqb (meet (union s t) u) (union s t)
       (cc (meet-comm (union s t) u, meet-union u s t, meet-comm u s, meet-comm u t, eqb-true (meet s u) s (p .0), eqb-true (meet t u) t (p .1))),
 )
+
+-- the same as a test
+pub inside-both : (s t u : ℕ) → inside (union s t) u ≡ (inside s u && inside t u)
+inside-both s t u =
+    let both = and-eq-true-iff (inside s u) (inside t u) in
+    same (inside (union s t) u) (inside s u && inside t u)
+    (λ e. both .1 (inside-union s t u .0 e)) (λ e. inside-union s t u .1 (both .0 e))
 
 pub without-inside : (s t : ℕ) → inside (without s t) s ≡ true
 without-inside s t =

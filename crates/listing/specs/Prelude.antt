@@ -28,7 +28,7 @@ pub use Rattle.event.specs.declared.events.Event.{Event}
 pub use Rattle.event.specs.declared.events.Event.the-variants.{Ask, Beat, Complete, Open, Release}
 pub use Rattle.event.specs.declared.events.Start.{Start}
 pub use Rattle.event.specs.declared.refusal.Refusal.{Refusal}
-unfoldable pub use Rattle.rows.specs.Line.{from, keep, lined, place}
+unfoldable pub use Rattle.rows.specs.Line.{keep, lined, place, under}
 unfoldable pub use Rattle.rows.specs.Order.{ahead, distinct, inWay}
 pub use Rattle.rows.specs.Order.{blocked, token}
 unfoldable pub use Rattle.rows.specs.Sweep.{settled, woken}

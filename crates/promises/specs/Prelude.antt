@@ -32,7 +32,7 @@ pub use Rattle.event.specs.declared.refusal.Refusal.{Refusal}
 pub use Rattle.event.specs.declared.refusal.Refusal.the-variants.{AlreadyHeld, AlreadyLive, BadStart, BitSet, ClockGoneBack, EmptySet, NoSuchJob, NoSuchResource, NoToken, NotDeclared, NotHeld, NotLive, ShortList, StartOutOfPlace, StillWaiting, TimeSpent, TurnsSpent, UnknownKind, UnsoundTable, WrongLength}
 pub use Rattle.rows.specs.InLine.{lined-in-turn, listed-once}
 pub use Rattle.rows.specs.InWay.{ahead-mono, in-way-ahead}
-unfoldable pub use Rattle.rows.specs.Line.{from, keep, lined, place}
+unfoldable pub use Rattle.rows.specs.Line.{keep, lined, place, under}
 pub use Rattle.rows.specs.Line.{line, rowOf}
 unfoldable pub use Rattle.rows.specs.Order.{ahead, distinct, inWay}
 pub use Rattle.rows.specs.Order.{blocked, claims, earlier, idle, live, token, waiting}
@@ -45,11 +45,14 @@ pub use Rattle.rows.specs.SweepLaws.{granted-keeps, swept-idle, swept-keeps}
 pub use Rattle.rows.specs.Turns.{earlier-turn, not-earlier, turn-earlier, waiting-reads}
 pub use Rattle.rows.specs.declared.row.Row.{Row}
 pub use Rattle.arbiter.specs.Answers.{Said, saysDone, saysGranted, saysToken, saysWait, saysWoke}
-pub use Rattle.arbiter.specs.Meaning.{accepted, lastAfter, late, lateJob, moved, openedRow, releasedRow, reported, rowAfter, rowsAfter, rowsWith, run, said, timeAt, wakes}
-unfoldable pub use Rattle.arbiter.specs.Meaning.{answer, course, lateAt, listed, next, overdue, report, startAnswer, startTable}
+pub use Rattle.arbiter.specs.Meaning.{accepted, lastAfter, late, moved, openedRow, reported, rowAfter, rowsAfter, rowsWith, run, said, timeAt, wakes}
+unfoldable pub use Rattle.arbiter.specs.Meaning.{answer, course, listed, next, overdue, report, startAnswer, startTable}
 pub use Rattle.arbiter.specs.Refusals.{applies, calling, cases, listCases, reportCases}
 pub use Rattle.arbiter.specs.Sound.{rowIn}
 unfoldable pub use Rattle.arbiter.specs.Sound.{sound}
 pub use Rattle.arbiter.specs.declared.table.Report.{Report}
 pub use Rattle.arbiter.specs.declared.table.Table.{Table}
 pub use Rattle.record.specs.Format.{encode}
+pub use Rattle.request.specs.Change.{releasing}
+pub use Rattle.sweep.specs.Late.{lateJob}
+unfoldable pub use Rattle.sweep.specs.Late.{lateIn}

@@ -1,5 +1,5 @@
 -- The sessions that document 01 marks P, as one table of claims about the meanings, each by computation.
-use Rattle.promises.specs.Prelude.{Ask, Complete, Open, Release, Table, Tick, [], ahead, all, answer, below, count, course, distinct, encode, false, fine, first, forward, from, inWay, inside, jobs, keep, late, lateAt, leaves, lined, meet, meets, next, outcome, overdue, place, refl, refused, report, run, saysWait, settled, sound, startTable, true, union, wakes, without, woken, ℕ, _∷_, _≡_}
+use Rattle.promises.specs.Prelude.{Ask, Complete, Open, Release, Table, Tick, [], ahead, all, answer, below, count, course, distinct, encode, false, fine, first, forward, under, inWay, inside, jobs, keep, late, lateIn, leaves, lined, meet, meets, next, outcome, overdue, place, refl, refused, report, run, saysWait, settled, sound, startTable, true, union, wakes, without, woken, ℕ, _∷_, _≡_}
 use Rattle.event.specs.declared.events.Entry.the-variants.{Event}
 use Rattle.record.specs.Worked as Record
 
@@ -46,7 +46,7 @@ Claim P12 =
 
 -- every session turns out as document 01 says
 pub worked : (session : Session) → Claim session
-unfolding startTable course next answer report overdue lateAt forward outcome leaves first sound distinct ahead inWay count all meets meet union without inside below settled woken keep lined place from
+unfolding startTable course next answer report overdue lateIn forward outcome leaves first sound distinct ahead inWay count all meets meet union without inside below settled woken keep lined place under
 worked P1 = Record.recorded
 worked P2 = refl
 worked P3 = refl

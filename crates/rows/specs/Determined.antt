@@ -1,8 +1,6 @@
 -- Each promise of this crate determines what is known, marked or listed.
-use Rattle.rows.specs.Prelude.{_&&_, _<_, Bool, Line, List, Row, Standing, Survey, and-false, ap, arith, determined, ext, ext-getD, false, false≢true, getD, jobs, length, meets, meets-reads, member, member-without, not, refl, sym, true, without, ℕ, _∙_, _≡_}
-use Rattle.rows.specs.LineInCode.{Holds, Listed, jobsOf}
-use Rattle.rows.specs.Marks.{Marks}
-use Rattle.rows.specs.Stand.{Stands, Surveyed, unknown}
+use Rattle.rows.specs.Prelude.{Bool, List, Row, Standing, _&&_, _∙_, _≡_, and-false, ap, determined, ext, false, false≢true, meets, meets-reads, member, member-without, not, refl, sym, true, without, ℕ}
+use Rattle.rows.specs.Stand.{Stands}
 
 -- sets that meet the same sets are one
 meets-tell : (s t : ℕ) → ((x : ℕ) → meets s x ≡ meets t x) → s ≡ t
@@ -29,34 +27,3 @@ standing-determined {s = s} {s′ = s′} p q =
     let ahead : s .ahead ≡ s′ .ahead = determined (p .before) (q .before) in
     let claims : s .claims ≡ s′ .claims = meets-tell (s .claims) (s′ .claims) (λ x. determined (p .forbids x) (q .forbids x)) in
     λ i. record { ahead = ahead i; claims = claims i }
-
--- arrays that hold, for each job, what its place determines are one
-each-determined :
-    {A : Type 0} (d : A) (l l′ : List A) → length l ≡ jobs → length l′ ≡ jobs →
-    ((j : ℕ) → j < jobs → getD l j d ≡ getD l′ j d) → l ≡ l′
-each-determined d l l′ long long′ same = ext-getD d l l′ (determined long long′) (λ j inside. same j (omega arith))
-
-pub survey-determined :
-    {rows : List Row} {k k′ : Survey} → length (k .standings) ≡ jobs → length (k′ .standings) ≡ jobs → Surveyed rows k →
-    Surveyed rows k′ → k ≡ k′
-survey-determined {rows} {k} {k′} long long′ p q =
-    let standings : k .standings ≡ k′ .standings =
-    each-determined unknown (k .standings) (k′ .standings) long long′
-    (λ j h. standing-determined (p .each j h) (q .each j h)) in
-    let apart : k .distinct ≡ k′ .distinct = determined (p .apart) (q .apart) in
-    λ i. record { standings = standings i; distinct = apart i }
-
-pub marks-determined :
-    {f : ℕ → Bool} {marks marks′ : List Bool} → length marks ≡ jobs → length marks′ ≡ jobs → Marks f marks → Marks f marks′ →
-    marks ≡ marks′
-marks-determined {marks = marks} {marks′ = marks′} long long′ p q =
-    each-determined false marks marks′ long long′ (λ j h. determined (p j h) (q j h))
-
--- of a line, its jobs and their number; what its array has behind them is left open, and nothing reads it
-pub line-determined : {xs : List ℕ} {l l′ : Line} → Holds xs l → Holds xs l′ → (l .len ≡ l′ .len) × (jobsOf l ≡ jobsOf l′)
-line-determined p q = (determined (p .number) (q .number), determined (p .list) (q .list))
-
-pub listed-determined :
-    {xs before after after′ : List ℕ} {n n′ : ℕ} → Listed xs before n after → Listed xs before n′ after′ →
-    (n ≡ n′) × (after ≡ after′)
-listed-determined p q = (determined (p .told) (q .told), determined (p .left) (q .left))

@@ -1,5 +1,5 @@
 -- Who is in the way, by name: the reading of Q3 by rows and resources.
-use Rattle.rows.specs.Prelude.{_<_, Bool, List, Row, and-eq-true-iff, and-left, arith, count-at, count-mono, count-some, false, false≢true, inside, inside-reads, meets, meets-reads, member, member-empty, member-union, refl, sym, true, union, ℕ, _∙_, _≡_, _≤_}
+use Rattle.rows.specs.Prelude.{Bool, List, Row, _<_, _∙_, _≡_, _≤_, and-eq-true-iff, and-left, arith, count-at, count-mono, count-some, false, false≢true, inside, inside-reads, meets, meets-reads, member, member-empty, member-union, refl, sym, true, union, ℕ}
 use Rattle.rows.specs.Line.{rowOf}
 use Rattle.rows.specs.Order.{ahead, claims, earlier, idle, inWay}
 use Rattle.rows.specs.Turns.{earlier-turn, turn-earlier}

@@ -5,9 +5,7 @@ pub mod InWay
 pub mod Known
 pub mod KnownLaws
 pub mod Line
-pub mod LineInCode
 pub mod LineLaws
-pub mod Marks
 pub mod Order
 pub mod OrderLaws
 pub mod Prelude

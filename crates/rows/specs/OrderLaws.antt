@@ -1,5 +1,5 @@
 -- How the counts of the order change with the rows.
-use Rattle.rows.specs.Prelude.{_+_, _<_, Bool, List, Row, all, all-map, ap, bit, count, count-map, count-set, eqb, fun-ext, getD, length, map, not, refl, set, sym, _||_, ℕ, _∙_, _≡_}
+use Rattle.rows.specs.Prelude.{Bool, List, Row, _+_, _<_, _||_, _∙_, _≡_, all, all-map, ap, bit, count, count-map, count-set, eqb, fun-ext, getD, length, map, not, refl, set, sym, ℕ}
 use Rattle.rows.specs.Order.{idle, live, earlier, ahead, claims, inWay, bears, alone, distinct}
 use Rattle.rows.specs.Propositions.{openingOf}
 

@@ -1,11 +1,11 @@
 -- The names from outside that this crate's definitions and proofs use, passed on by one module.
 pub use Prim.Native.Nat.{_+_, _-_, _<_, _≤_, suc, suc-le-suc, zero, ℕ}
-pub use mathlib.Core.Bool.{Bool, _&&_, _||_, and-eq-true-iff, and-false, and-true, cond, false, false≢true, not, or-assoc, or-false, true, true≢false}
+pub use mathlib.Core.Bool.{Bool, _&&_, _||_, and-assoc, and-eq-true-iff, and-false, and-true, cond, false, false≢true, not, or-assoc, or-false, true, true≢false}
 pub use mathlib.Core.List.{List, [], _++_, _∷_, append-nil, map}
 pub use mathlib.Core.Logic.{_≢_, _⊎_, inl, inr, ⊎-elim}
 pub use mathlib.Core.Path.{_∙_, _≡_, ap, fun-ext, refl, subst, sym}
 pub use native.Mathlib.Decide.{ℕ-discrete}
-pub use native.Mathlib.Nat.{add-zero, le-of-suc-le-suc, not-suc-le-zero, zero-add, zero-lt-suc}
+pub use native.Mathlib.Nat.{add-comm, add-zero, le-of-suc-le-suc, not-suc-le-zero, zero-add, zero-lt-suc}
 pub use native.Mathlib.Numerals.{add-one}
 pub use native.Mathlib.Omega.{arith}
 pub use borrow.Author.Needs.{needs}
@@ -27,7 +27,5 @@ pub use Rattle.laws.specs.SetLaws.{ext, inside-reads, meets-comm, meets-reads, 
 pub use Rattle.laws.specs.Sets.{inside, member, without}
 unfoldable pub use Rattle.laws.specs.Sets.{meet, meets, union}
 pub use Rattle.event.specs.Limits.{jobs}
-pub use Rattle.rows.specs.declared.line.Line.{Line}
 pub use Rattle.rows.specs.declared.row.Row.{Row}
 pub use Rattle.rows.specs.declared.stand.Standing.{Standing}
-pub use Rattle.rows.specs.declared.stand.Survey.{Survey}

@@ -1,5 +1,5 @@
 -- Laws of the sweep: it changes no turn and no declared set.
-use Rattle.rows.specs.Prelude.{List, List·getD-map, Row, ap, either, getD, length, length-map, map, refl, sym, union, ℕ, _∙_, _≡_}
+use Rattle.rows.specs.Prelude.{List, List·getD-map, Row, _∙_, _≡_, ap, either, getD, length, length-map, map, refl, sym, union, ℕ}
 use Rattle.rows.specs.Line.{rowOf}
 use Rattle.rows.specs.Order.{ahead, blocked, distinct, idle, inWay, waiting}
 use Rattle.rows.specs.Propositions.{openingOf}

@@ -1,5 +1,5 @@
 -- What the tests of single rows say, and turns that no two live rows share.
-use Rattle.rows.specs.Prelude.{_+_, _<_, Bool, List, List·getD-eq-default, Reads, Row, all-each, and-eq-true-iff, and-false, ap, arith, bit, count, count-at, count-set, count-some, each-all, eq-eqb, eqb, eqb-true, false, false≢true, getD-set-other, getD-set-same, inl, inr, le-ltb, le-zero, length, lt-ltb, ltb, ltb-false, ltb-true, not, reading, refl, set, sym, true, true≢false, _||_, ℕ, ℕ-discrete, _≡_, _≢_, _≤_, _⊎_}
+use Rattle.rows.specs.Prelude.{Bool, List, List·getD-eq-default, Reads, Row, _+_, _<_, _||_, _≡_, _≢_, _≤_, _⊎_, all-each, and-eq-true-iff, and-false, ap, arith, bit, count, count-at, count-set, count-some, each-all, eq-eqb, eqb, eqb-true, false, false≢true, getD-set-other, getD-set-same, inl, inr, le-ltb, le-zero, length, lt-ltb, ltb, ltb-false, ltb-true, not, reading, refl, set, sym, true, true≢false, ℕ, ℕ-discrete}
 use Rattle.rows.specs.Line.{rowOf}
 use Rattle.rows.specs.Order.{ahead, alone, bears, distinct, earlier, idle, live, waiting}
 use Rattle.rows.specs.Propositions.{Distinct}

@@ -1,6 +1,6 @@
 -- One history, computed: it meets every hypothesis of demand 3, with more than T-1 before the opening, a set that waits,
 -- three before it of whom two are in its way, a completion that wakes two, and refused events and a later request between.
-use Rattle.promises.specs.Prelude.{_++_, _-_, Ask, Beat, Bool, Complete, List, Open, Outcome, Report, Row, Said, Table, Tick, [], ahead, all, answer, ap, below, claims, count, course, distinct, false, fine, first, from, gone, idle, inWay, inside, jobs, keep, leaves, lined, meet, meets, next, outcome, place, refl, refused, replicate, report, rowIn, run, saysWait, saysWoke, settled, sound, startAnswer, startTable, sym, true, union, woken, ℕ, _∙_, _∷_, _≡_}
+use Rattle.promises.specs.Prelude.{_++_, _-_, Ask, Beat, Bool, Complete, List, Open, Outcome, Report, Row, Said, Table, Tick, [], ahead, all, answer, ap, below, claims, count, course, distinct, false, fine, first, under, gone, idle, inWay, inside, jobs, keep, leaves, lined, meet, meets, next, outcome, place, refl, refused, replicate, report, rowIn, run, saysWait, saysWoke, settled, sound, startAnswer, startTable, sym, true, union, woken, ℕ, _∙_, _∷_, _≡_}
 use Rattle.event.specs.declared.events.Event.{Event}
 use Rattle.promises.specs.Demand.Statement.{Demand3, Supposed, afterOpening, n, now, p}
 use Rattle.promises.specs.Demand.Holds.{demand3}
@@ -126,7 +126,7 @@ pub record Shown : Type 0 where
   pub wakes : lists set-waits (Complete 2 (at 7)) ≡ 3 ∷ 6 ∷ []
 
 pub shown : Shown
-unfolding answers leavingsOf gone answer outcome startTable course next leaves first sound all distinct count ahead inWay below inside meet meets settled union woken keep lined from place
+unfolding answers leavingsOf gone answer outcome startTable course next leaves first sound all distinct count ahead inWay below inside meet meets settled union woken keep lined under place
 shown =
     record {
       behind = refl;
@@ -161,5 +161,5 @@ abbrev tried : Arbiter
 tried = record { answer = ours .answer; next = ours .next; lists = ours .lists; report = ours .report }
 
 pub observed : Observed tried
-unfolding answer report next leaves outcome first sound all distinct count ahead inWay below inside meet meets settled union woken keep lined from place course
+unfolding answer report next leaves outcome first sound all distinct count ahead inWay below inside meet meets settled union woken keep lined under place course
 observed = record { refused-one = refl; one-gone = refl; two-gone = refl; three-gone = refl; listed = refl; held = refl }

@@ -1,5 +1,5 @@
 -- Requests of turns up to n: what they live through depends on the rows of turns up to n alone. The proof.
-use Rattle.promises.specs.Prelude.{_+_, _++_, Ask, Beat, Bool, Case, Complete, List, Open, Release, Row, Table, TurnsSpent, [], about, accepted, among, answer, ap, arith, refusalsOf, cases, cond, course, earlier-turn, false, false≢true, hasJob, jobOf, jobs, keep, lastAfter, lateAt, lateJob, length, line, listCases, moved, next, outcome, refl, releasedRow, rowAfter, rowIn, rowsAfter, rowsWith, run, saysDone, saysGranted, saysWait, saysWoke, set, setOf, settled, sound, sym, tickOf, timeAt, true, union, wakes, woken, ℕ, _∙_, _∷_, _≡_}
+use Rattle.promises.specs.Prelude.{_+_, _++_, Ask, Beat, Bool, Case, Complete, List, Open, Release, Row, Table, TurnsSpent, [], about, accepted, among, answer, ap, arith, refusalsOf, cases, cond, course, earlier-turn, false, false≢true, hasJob, jobOf, jobs, keep, lastAfter, lateIn, lateJob, length, line, listCases, moved, next, outcome, refl, releasing, rowAfter, rowIn, rowsAfter, rowsWith, run, saysDone, saysGranted, saysWait, saysWoke, set, setOf, settled, sound, sym, tickOf, timeAt, true, union, wakes, woken, ℕ, _∙_, _∷_, _≡_}
 use Rattle.event.specs.declared.events.Event.{Event}
 use Rattle.promises.specs.History.Events.{accepts}
 use Rattle.promises.specs.History.Words.{isFine, taken, Along}
@@ -52,7 +52,7 @@ module _ {T n : ℕ} {t u : Table} (along-t : Along T n t) (along-u : Along T n 
       cond (same-blocked a j in-t s i)
       (record { turn = r i .turn; declared = r i .declared; held = r i .held; asked = s; since = same-time a (tick .0) i })
       (record { turn = r i .turn; declared = r i .declared; held = union (r i .held) s; asked = r i .asked; since = r i .since })
-  same-row-after (Release j tick s) ok in-t = ap (λ (r : Row). releasedRow r s) (same-row a j in-t)
+  same-row-after (Release j tick s) ok in-t = ap (λ (r : Row). releasing r s) (same-row a j in-t)
   same-row-after (Complete j tick) ok in-t = refl
 
   -- the rows that an accepted event of one of them leaves
@@ -133,7 +133,7 @@ module _ {T n : ℕ} {t u : Table} (along-t : Along T n t) (along-u : Along T n 
 -- and what they are told when they ask
 pub up-to-tells :
     {n : ℕ} {t u : Table} → sound t ≡ true → sound u ≡ true → Agree n t u → ReportedAlike n t u
-unfolding lateAt
+unfolding lateIn
 up-to-tells {n} {t} {u} sound-t sound-u a =
     record {
       reported = λ j in-t. same-report a j in-t sound-t sound-u;

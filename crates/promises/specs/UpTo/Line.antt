@@ -1,5 +1,5 @@
 -- The jobs of turns up to n in line, and those of them that are woken, are those of the rows up to n alone.
-use Rattle.promises.specs.Prelude.{_&&_, _+_, _-_, _<_, Bool, InTurn, List, Row, [], and-false, and-not-self, and-true, ap, arith, cond, earlier, earlier-turn, false, from, fun-ext, getD, idle, keep, lateJob, leb, length, length-map, line, lined, lined-in-turn, live, lt-ltb, ltb, ltb-true, not, not-earlier, place, refl, rowOf, sym, true, true≢false, turn-earlier, waiting, woke, woken, ℕ, _∙_, _∷_, _≡_}
+use Rattle.promises.specs.Prelude.{_&&_, _+_, _-_, _<_, Bool, InTurn, List, Row, [], and-false, and-not-self, and-true, ap, arith, cond, earlier, earlier-turn, false, fun-ext, getD, idle, keep, lateJob, leb, length, length-map, line, lined, lined-in-turn, live, lt-ltb, ltb, ltb-true, not, not-earlier, place, refl, rowOf, sym, true, true≢false, turn-earlier, under, waiting, woke, woken, ℕ, _∙_, _∷_, _≡_}
 use Rattle.kept.specs.Woken.{keep-none}
 use Rattle.kept.specs.Sound.Words.{seen}
 use Rattle.promises.specs.UpTo.Statement.{upTo}
@@ -106,7 +106,7 @@ module _ (n : ℕ) (rows : List Row) where
           drops false = refl
 
   line-up-to : keep low (line rows) ≡ line (upTo n rows)
-  line-up-to = lined-up-to (from 0 (length rows)) ∙ ap (λ (k : ℕ). lined (upTo n rows) (from 0 k)) (sym (length-map rows (seen m)))
+  line-up-to = lined-up-to (under (length rows)) ∙ ap (λ (k : ℕ). lined (upTo n rows) (under k)) (sym (length-map rows (seen m)))
 
   -- what is listed of them, by tests that say the same of each
   pub keep-up-to :

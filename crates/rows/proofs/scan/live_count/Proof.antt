@@ -1,5 +1,5 @@
 -- The loop's invariant: `n` rows before place `i` are live.
-use Rattle.rows.specs.Prelude.{_-_, Passed, arith, jobs, needs, passed-all, passed-le, passed-more, passed-none, _≤_}
+use Rattle.rows.specs.Prelude.{Passed, _-_, _≤_, arith, jobs, needs, passed-all, passed-le, passed-more, passed-none}
 use Rattle.rows.specs.Order.{idle, live}
 use Rattle.rows.proofs.scan.live_count.Statement.{statement}
 use Rattle.rows.proofs.scan.live_count.Tie as tie

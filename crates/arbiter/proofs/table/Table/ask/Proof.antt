@@ -1,42 +1,23 @@
--- A refused verdict leaves the table; an accepted one does what the event means.
-use Rattle.arbiter.specs.Prelude.{Ask, case, jobs, needs, refl, rowOf, set, ℕ}
-use Rattle.arbiter.proofs.Answering.{accepted-answers, refused-answers}
-use Rattle.arbiter.proofs.Verdicts.{has-row, judged}
-use Rattle.arbiter.specs.Meaning.{askedRow, moved, timeAt}
-use Rattle.arbiter.specs.Refusals.{cases}
+-- What was found is carried out.
+use Rattle.arbiter.specs.Prelude.{needs, refl}
+use Rattle.arbiter.proofs.Surveys.{last-seen, surveyed-by}
 use Rattle.arbiter.proofs.table.Table.ask.Statement.{statement}
 use Rattle.arbiter.proofs.table.Table.ask.Tie as tie
 
-asked-requires : tie.Need-asked-requires
-unfolding case
-asked-requires c κs =
-    let a = c .before .before .before .before .before .before .args in
-    let v = judged (c .before .verdict2 .given .1) (c .before .before .before .ask-verdict .ensures) in
-    (c .before .before .before .before .survey .ensures, has-row (cases jobs (a .self) (Ask (a .job) (a .tick) (a .wanted))) (a .job) _ _ refl refl v)
+found-requires : tie.Need-found-requires
+found-requires c κs =
+    let t = c .before .before .before .args .self in
+    last-seen t _ _ (surveyed-by (c .before .bounds .result) t (c .before .bounds .ensures) (c .survey .ensures))
 
-returns : tie.Need-returns
-returns c =
-    let a = c .before .before .before .before .before .before .before .args in
-    refused-answers jobs (a .self) (Ask (a .job) (a .tick) (a .wanted)) (timeAt (a .self) (a .tick .0)) _ _
-    (judged (c .before .before .verdict .given .1) (c .before .before .before .before .ask-verdict .ensures)) (c .refused .ensures)
-
-returns-2 : tie.Need-returns-2
-returns-2 c =
-    let a = c .before .before .before .before .before .before .before .args in
-    accepted-answers jobs (a .self) (Ask (a .job) (a .tick) (a .wanted)) (timeAt (a .self) (a .tick .0)) _ _
-    (λ (time : ℕ). moved (a .self) time (a .self .last .0)
-    (set (a .self .rows) (a .job) (askedRow (a .self) (rowOf (a .self .rows) (a .job)) time (a .wanted))))
-    (judged (c .before .before .verdict2 .given .1) (c .before .before .before .before .ask-verdict .ensures)) refl (c .asked .ensures)
+written-requires : tie.Need-written-requires
+written-requires c κs =
+    let t = c .before .before .before .before .args .self in (
+      refl,
+      c .found .ensures t refl
+          (surveyed-by (c .before .before .bounds .result) t (c .before .before .bounds .ensures) (c .before .survey .ensures)),
+    )
 
 pub ask-spec : {M : Type 1} → statement M
 ask-spec =
     tie.close
-    (tie.spec
-    (λ c κs. search needs)
-    (λ c κs. search needs)
-    (λ c. search needs)
-    (λ c κs. search needs)
-    (λ c. search needs)
-    asked-requires
-    returns
-    returns-2)
+    (tie.spec (λ c κs. search needs) (λ c κs. search needs) found-requires written-requires (λ c. c .written .ensures))

@@ -1,34 +1,23 @@
--- A refused verdict leaves the table; an accepted one does what the event means.
-use Rattle.arbiter.specs.Prelude.{Beat, jobs, needs, refl, ℕ}
-use Rattle.arbiter.proofs.Verdicts.{judged}
-use Rattle.arbiter.proofs.Answering.{accepted-answers, refused-answers}
-use Rattle.arbiter.specs.Meaning.{moved, timeAt}
+-- What was found is carried out.
+use Rattle.arbiter.specs.Prelude.{needs, refl}
+use Rattle.arbiter.proofs.Surveys.{last-seen, surveyed-by}
 use Rattle.arbiter.proofs.table.Table.beat.Statement.{statement}
 use Rattle.arbiter.proofs.table.Table.beat.Tie as tie
 
-returns : tie.Need-returns
-returns c =
-    let a = c .before .before .before .before .before .before .before .args in
-    refused-answers jobs (a .self) (Beat (a .tick)) (timeAt (a .self) (a .tick .0)) _ _
-    (judged (c .before .before .verdict .given .1) (c .before .before .before .before .clock-verdict .ensures)) (c .refused .ensures)
+found-requires : tie.Need-found-requires
+found-requires c κs =
+    let t = c .before .before .before .args .self in
+    last-seen t _ _ (surveyed-by (c .before .bounds .result) t (c .before .bounds .ensures) (c .survey .ensures))
 
-returns-2 : tie.Need-returns-2
-returns-2 c =
-    let a = c .before .before .before .before .before .before .before .before .args in
-    accepted-answers jobs (a .self) (Beat (a .tick)) (timeAt (a .self) (a .tick .0)) _ _
-    (λ (time : ℕ). moved (a .self) time (a .self .last .0) (a .self .rows))
-    (judged (c .before .before .before .verdict2 .given .1) (c .before .before .before .before .before .clock-verdict .ensures)) refl
-    (record { says = refl; hands = c .moved .ensures })
+written-requires : tie.Need-written-requires
+written-requires c κs =
+    let t = c .before .before .before .before .args .self in (
+      refl,
+      c .found .ensures t refl
+          (surveyed-by (c .before .before .bounds .result) t (c .before .before .bounds .ensures) (c .before .survey .ensures)),
+    )
 
 pub beat-spec : {M : Type 1} → statement M
 beat-spec =
     tie.close
-    (tie.spec
-    (λ c κs. search needs)
-    (λ c κs. search needs)
-    (λ c. search needs)
-    (λ c κs. search needs)
-    (λ c. search needs)
-    (λ c κs. search needs)
-    returns
-    returns-2)
+    (tie.spec (λ c κs. search needs) (λ c κs. search needs) found-requires written-requires (λ c. c .written .ensures))

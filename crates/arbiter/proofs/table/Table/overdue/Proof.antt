@@ -1,66 +1,96 @@
--- A refused verdict leaves the list; an accepted one lists the jobs that are late.
-use Rattle.arbiter.specs.Prelude.{Count, List, Listed, No, Refusal, Table, acceptance-tells, ap, fine, le-ltb, leaves, length, lt-ltb, needs, numberOf, outcome, outcome-is, outcome-past, over, refusal-tells, refused, sym, this, ℕ, _∙_, _≡_}
-use Rattle.arbiter.proofs.Verdicts.{judged}
-use Rattle.arbiter.specs.Meaning.{late, lateAt, overdue, overdueList, timeAt}
+-- A refusal leaves the list; an accepted question lists who is overdue.
+use Rattle.arbiter.specs.Prelude.{Bounds, Surveyed, acceptance-tells, ap, fine, lt-ltb, outcome-is, refusal-tells, subst, sym, this, timeFrom, ℕ, _∙_, Beat, Count, List, Listed, No, Refusal, ShortList, Table, _≡_, lateIn, length, momentOf, numberOf, outcome, over, refused, le-ltb, needs, outcome-past, soundBy, true}
+use Rattle.arbiter.specs.Changes.{boundsOf, refusalCases}
+use Rattle.arbiter.specs.Meaning.{late, overdue, overdueList, timeAt}
 use Rattle.arbiter.specs.Promises.{OverdueAnswered}
-use Rattle.arbiter.specs.Refusals.{overdueCases}
+use Rattle.arbiter.specs.Refusals.{overdueCases, seenIn}
+use Rattle.arbiter.specs.ChangeLaws.{sound-by}
+use Rattle.arbiter.proofs.Surveys.{judged, listed-by, saw-sound, seen-tells}
 use Rattle.arbiter.proofs.table.Table.overdue.Statement.{statement}
 use Rattle.arbiter.proofs.table.Table.overdue.Tie as tie
 
-module _ (t : Table) (tick : ℕ) (before : List ℕ) where
-  refused-late :
-      (refusal : Refusal) → refused (numberOf refusal) ≡ outcome (overdueCases (length before) t tick) (timeAt t tick) →
-      OverdueAnswered t tick before (No refusal) before
-  unfolding overdue overdueList
-  refused-late refusal v =
-      let told = refusal-tells (overdueCases (length before) t tick) (timeAt t tick) (numberOf refusal) (sym v) in
-      record { says = sym (told .1 (length (late t tick))); lists = sym (list-tells before (over (late t tick) before)) }
-    where
-      list-tells : (old new : List ℕ) → leaves (overdueCases (length before) t tick) old new ≡ old
-      list-tells =
-          refusal-tells (overdueCases (length before) t tick) (timeAt t tick) (numberOf refusal) (sym v) .2
+-- the survey is of this table
+surveyed :
+    (c : tie.After-survey) →
+    let a = c .before .before .before .before .before .args in
+    Surveyed (boundsOf (a .self)) (a .self .rows) 0 (c .survey .result)
+surveyed c =
+    let a = c .before .before .before .before .before .args in
+    subst (λ (b : Bounds). Surveyed b (a .self .rows) 0 (c .survey .result)) (c .before .bounds .ensures) (c .survey .ensures)
 
-  accepted-late :
-      (after : List ℕ) (n x : ℕ) → fine x ≡ outcome (overdueCases (length before) t tick) (timeAt t tick) →
-      Listed (lateAt t x) before n after → OverdueAnswered t tick before (Count n) after
-  unfolding overdue overdueList
-  accepted-late after n x v p =
-      let same : lateAt t x ≡ late t tick =
-      ap (lateAt t) (sym (acceptance-tells {B = ℕ} (overdueCases (length before) t tick) (timeAt t tick) x (sym v) .1)) in
-      record {
-        says =
-            ap fine (p .told ∙ ap length same)
-            ∙ sym (acceptance-tells (overdueCases (length before) t tick) (timeAt t tick) x (sym v) .2 (length (late t tick)));
-        lists =
-            p .left ∙ ap (λ (l : List ℕ). over l before) same
-            ∙ sym (acceptance-tells (overdueCases (length before) t tick) (timeAt t tick) x (sym v) .3 before (over (late t tick) before));
-      }
+-- the verdict is that by the table
+judges :
+    (c : tie.After-clock-verdict) →
+    let a = c .before .before .before .before .before .before .before .args in
+    momentOf (c .clock-verdict .result)
+    ≡ outcome (refusalCases (seenIn (a .self) 0) (Beat (a .tick))) (timeAt (a .self) (a .tick .0))
+judges c =
+    let a = c .before .before .before .before .before .before .before .args in
+    c .clock-verdict .ensures
+    ∙ seen-tells (a .self) (Beat (a .tick)) (c .before .before .survey .result) (surveyed (c .before .before))
+    (λ s. timeFrom (s .time) (a .tick .0))
+
+-- a refusal is told, and leaves the list
+refuses :
+    {A : Type 0} (t : Table) (tick : ℕ) (before : List ℕ) (r : Refusal) (a : A) →
+    refused (numberOf r) ≡ outcome (overdueCases (length before) t tick) a → OverdueAnswered t tick before (No r) before
+unfolding overdue overdueList
+refuses t tick before r a v =
+    let told = refusal-tells (overdueCases (length before) t tick) a (numberOf r) (sym v) in
+    record {
+      says = sym (told .1 (length (late t tick)));
+      lists = sym (refusal-tells {B = List ℕ} (overdueCases (length before) t tick) a (numberOf r) (sym v) .2 before (over (late t tick) before));
+    }
+
+-- an accepted question is told how many are listed
+accepts :
+    (t : Table) (tick : ℕ) (before after : List ℕ) (n x : ℕ) → fine x ≡ outcome (overdueCases (length before) t tick) (timeAt t tick) →
+    Listed (lateIn (t .tokens) (t .limit) x (t .rows)) before n after → OverdueAnswered t tick before (Count n) after
+unfolding overdue overdueList
+accepts t tick before after n x v listed =
+    let told = acceptance-tells {B = ℕ} (overdueCases (length before) t tick) (timeAt t tick) x (sym v) in
+    let same : lateIn (t .tokens) (t .limit) x (t .rows) ≡ late t tick =
+    ap (λ (time : ℕ). lateIn (t .tokens) (t .limit) time (t .rows)) (sym (told .1)) in
+    record {
+      says = ap fine (listed .told ∙ ap length same) ∙ sym (told .2 (length (late t tick)));
+      lists =
+          listed .left ∙ ap (λ (xs : List ℕ). over xs before) same
+          ∙ sym (acceptance-tells {B = List ℕ} (overdueCases (length before) t tick) (timeAt t tick) x (sym v) .3 before (over (late t tick) before));
+    }
 
 returns : tie.Need-returns
-returns c = let a = c .before .before .args in refused-late (a .self) (a .tick .0) _ _ (outcome-is _ (this (lt-ltb _ _ (c .if1 .taken))))
+returns c =
+    let a = c .before .before .args in
+    refuses (a .self) (a .tick .0) (a .late .now) ShortList (timeAt (a .self) (a .tick .0)) (outcome-is _ (this (lt-ltb _ _ (c .if1 .taken))))
 
-listed-late-requires : tie.Need-listed-late-requires
-listed-late-requires c κs = (
-  c .before .before .before .before .before .survey .ensures,
-  c .before .before .before .before .before .before .before .if1 .left,
-)
+list-late-requires : tie.Need-list-late-requires
+list-late-requires c κs =
+    let at = c .before .before .before .before .before .before in
+    let known = at .before .before in
+    let a = known .before .before .before .before .before .args in
+    let v = judged (c .before .before .before .before .verdict2 .given .1) (judges at) in
+    let ok = sound-by (a .self) ∙ saw-sound (seenIn (a .self) 0) (Beat (a .tick)) _ _ v in (
+      (surveyed known .known ok .lines, subst (λ (b : Bounds). soundBy b (a .self .rows) ≡ true) (sym (c .before .bounds2 .ensures)) ok),
+      known .before .before .before .if1 .left,
+    )
 
 returns-2 : tie.Need-returns-2
 returns-2 c =
-    let a = c .before .before .before .before .before .before .before .before .args in
-    refused-late (a .self) (a .tick .0) _ _
-    (judged (c .before .verdict .given .1) (c .before .before .before .clock-verdict .ensures)
-    ∙ outcome-past _ _ _ _ (le-ltb _ _ (c .before .before .before .before .before .before .if1 .left)))
+    let at = c .before .before .before in
+    let a = at .before .before .before .before .before .before .before .args in
+    refuses (a .self) (a .tick .0) (a .late .now) _ (timeAt (a .self) (a .tick .0))
+    (judged (c .before .verdict .given .1) (judges at)
+    ∙ outcome-past _ _ _ _ (le-ltb _ _ (at .before .before .before .before .before .if1 .left)))
 
 returns-3 : tie.Need-returns-3
 returns-3 c =
-    let a = c .before .before .before .before .before .before .before .before .before .before .before .before .args in
-    accepted-late (a .self) (a .tick .0) _ _ _ _
-    (judged (c .before .before .before .before .before .verdict2 .given .1)
-    (c .before .before .before .before .before .before .before .clock-verdict .ensures)
-    ∙ outcome-past _ _ _ _
-    (le-ltb _ _ (c .before .before .before .before .before .before .before .before .before .before .if1 .left)))
-    (c .before .before .listed-late .ensures)
+    let at = c .before .before .before .before .before .before .before .before .before in
+    let a = at .before .before .before .before .before .before .before .args in
+    let v = judged (c .before .before .before .before .before .before .before .verdict2 .given .1) (judges at) in
+    accepts (a .self) (a .tick .0) (a .late .now) _ _ _
+    (v ∙ outcome-past _ _ _ _ (le-ltb _ _ (at .before .before .before .before .before .if1 .left)))
+    (listed-by (c .before .before .before .before .bounds2 .result) (a .self) (c .before .before .before .before .bounds2 .ensures) (a .self .rows) _
+    (c .before .before .list-late .ensures))
 
 pub overdue-spec : {M : Type 1} → statement M
 overdue-spec =
@@ -69,9 +99,11 @@ overdue-spec =
     returns
     (λ c κs. search needs)
     (λ c κs. search needs)
+    (λ c κs. search needs)
     (λ c. search needs)
     (λ c. search needs)
-    listed-late-requires
+    (λ c κs. search needs)
+    list-late-requires
     returns-2
     (λ c. search needs)
     returns-3)

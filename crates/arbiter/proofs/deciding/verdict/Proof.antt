@@ -1,0 +1,39 @@
+-- The verdict on each kind of event is that of its own function.
+use Rattle.arbiter.specs.Prelude.{needs}
+use Rattle.arbiter.proofs.deciding.verdict.Statement.{statement}
+use Rattle.arbiter.proofs.deciding.verdict.Tie as tie
+
+returns : tie.Need-returns
+returns c = rw (c .before .before .event .given .1) (c .clock-verdict .ensures)
+
+returns-2 : tie.Need-returns-2
+returns-2 c = rw (c .before .before .event2 .given .1) (c .open-verdict .ensures)
+
+returns-3 : tie.Need-returns-3
+returns-3 c = rw (c .before .before .event3 .given .1) (c .ask-verdict .ensures)
+
+returns-4 : tie.Need-returns-4
+returns-4 c = rw (c .before .before .event4 .given .1) (c .release-verdict .ensures)
+
+returns-5 : tie.Need-returns-5
+returns-5 c = rw (c .before .before .event5 .given .1) (c .complete-verdict .ensures)
+
+pub verdict-spec : {M : Type 1} → statement M
+verdict-spec =
+    tie.close
+    (tie.spec
+    (λ c. search needs)
+    (λ c κs. search needs)
+    (λ c. search needs)
+    (λ c κs. search needs)
+    (λ c. search needs)
+    (λ c κs. search needs)
+    (λ c. search needs)
+    (λ c κs. search needs)
+    (λ c. search needs)
+    (λ c κs. search needs)
+    returns
+    returns-2
+    returns-3
+    returns-4
+    returns-5)

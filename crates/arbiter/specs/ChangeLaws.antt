@@ -1,0 +1,133 @@
+-- What an event comes to on a table, by what it sees of it.
+use Rattle.arbiter.specs.Prelude.{Bool, Table, Ask, Beat, Call, Change, Complete, Event, List, Open, Release, Row, Seen, [], _+_, _∙_, _∷_, _≡_, about, ap, appliesTo, blocked, casesBy, cond, false, fine, getD, idle, jobOf, not, outcome, outcome-is, refl, refused, seenBy, set, setOf, soundBy, suc, sym, this, token, true, true≢false, zero, ℕ, _&&_, _<_, _^_, _≤_, ahead, all, all-each, and-left, and-right, arith, count-and-true, count-every, count-line, count-mono, distinct, earlier, highest, holds, le-antisymm, leb, leb-true, length, line, live, ltb-true, turn-earlier, Description, refusalsOf, Survey, Surveyed}
+use Rattle.arbiter.specs.Changes.{askAnswer, boundsOf, changeFor, decided, openAnswer, refusalCases}
+use Rattle.arbiter.specs.declared.deciding.Decision.{Decision}
+use Rattle.arbiter.specs.Meaning.{accepted, moved, said, wakes}
+use Rattle.arbiter.specs.Refusals.{applies, seenIn}
+use Rattle.arbiter.specs.Sound.{counters, ranges, rowIn, sound, soundRow}
+use Rattle.arbiter.specs.Answers.{saidOf, saysGranted, saysToken, saysWait}
+
+-- ---- What a survey of a table tells
+
+-- a table is sound by its numbers and its rows
+pub sound-by : (t : Table) → soundBy (boundsOf t) (t .rows) ≡ sound t
+unfolding sound soundBy
+sound-by t = refl
+
+-- what is seen of them is what is seen of the table
+pub seen-by : (t : Table) (j : ℕ) → seenBy (boundsOf t) (t .rows) j ≡ seenIn t j
+seen-by t j = λ i.
+    record {
+      sound = sound-by t i;
+      resources = t .resources;
+      time = t .time;
+      last = t .last;
+      row = rowIn t j;
+      token = seenIn t j .token;
+    }
+
+-- what a call answers by a survey it answers by the table, for in an unsound one nothing else is looked at
+pub survey-tells :
+    {A : Type 0} (t : Table) (c : Call) (d : Description) (f : Seen → A) (s : Seen) →
+    s .sound ≡ soundBy (boundsOf t) (t .rows) → (soundBy (boundsOf t) (t .rows) ≡ true → s ≡ seenBy (boundsOf t) (t .rows) (c .job)) →
+    outcome (casesBy (appliesTo s c) (refusalsOf d)) (f s)
+    ≡ outcome (casesBy (applies t c) (refusalsOf d)) (f (seenIn t (c .job)))
+survey-tells {A} t c d f s told known = go (sound t) refl
+  where
+    unsound : (x : Seen) → x .sound ≡ false → refused 3 ≡ outcome (casesBy (appliesTo x c) (refusalsOf d)) (f x)
+    unsound x e = outcome-is (f x) (this (ap not e))
+
+    go :
+        (b : Bool) → sound t ≡ b →
+        outcome (casesBy (appliesTo s c) (refusalsOf d)) (f s)
+        ≡ outcome (casesBy (applies t c) (refusalsOf d)) (f (seenIn t (c .job)))
+    go true e =
+        ap (λ (x : Seen). outcome (casesBy (appliesTo x c) (refusalsOf d)) (f x))
+        (known (sound-by t ∙ e) ∙ seen-by t (c .job))
+    go false e = sym (unsound s (told ∙ sound-by t ∙ e)) ∙ unsound (seenIn t (c .job)) e
+
+-- ---- What an accepted event changes
+
+-- to write what stands there changes nothing
+set-same : {A : Type 0} (d : A) (l : List A) (k : ℕ) → set l k (getD l k d) ≡ l
+set-same d [] k = refl
+set-same d (x ∷ l) zero = refl
+set-same {A} d (x ∷ l) (suc k) = ap (λ (m : List A). x ∷ m) (set-same d l k)
+
+-- whether Q3 forbids its job the set of an event
+abbrev pub forbids : Table → Event → Bool
+forbids t e = blocked (t .rows) (rowIn t (jobOf e) .turn .0) (setOf e)
+
+-- whether a request that is opened now has a token
+abbrev pub hasRoom : Table → Bool
+hasRoom t = token (t .tokens) (t .rows) (t .last .0 + 1)
+
+-- what an event changes on a table
+abbrev pub changeOn : Table → Event → Change
+changeOn t e = changeFor (seenIn t (jobOf e)) (forbids t e) (hasRoom t) e
+
+-- d is what an event comes to on a table, but for a lent list that is too short
+abbrev pub Decides : Table → Event → Decision → Type 0
+Decides t e d = decided d ≡ outcome (refusalCases (seenIn t (jobOf e)) e) (changeOn t e)
+
+-- d is what an event comes to on every table with so many tokens of which v is the survey for it
+abbrev pub Finds : Survey → ℕ → Event → Decision → Type 0
+Finds v T e d = (t : Table) → T ≡ t .tokens → Surveyed (boundsOf t) (t .rows) (jobOf e) v → Decides t e d
+
+-- an event that wakes nobody changes one row
+pub change-accepted :
+    (t : Table) (e : Event) → about e .wakes ≡ false →
+    moved t (changeOn t e .time) (changeOn t e .last .0) (set (t .rows) (jobOf e) (changeOn t e .row)) ≡ accepted t e
+change-accepted t (Beat tick) quiet = ap (λ (rows : List Row). moved t (changeOn t (Beat tick) .time) (t .last .0) rows) (set-same idle (t .rows) 0)
+change-accepted t (Open j tick s) quiet = refl
+change-accepted t (Ask j tick s) quiet = refl
+change-accepted t (Release j tick s) quiet = refl
+change-accepted t (Complete j tick) quiet = absurd (true≢false quiet)
+
+-- and is told what it means
+pub change-said : (t : Table) (e : Event) → about e .wakes ≡ false → saidOf (changeOn t e .answer) ≡ fine (said t e)
+change-said t (Beat tick) quiet = refl
+change-said t (Open j tick s) quiet = go (hasRoom t)
+  where
+    go : (b : Bool) → saidOf (openAnswer b) ≡ fine (cond b saysToken saysWait)
+    go true = refl
+    go false = refl
+change-said t (Ask j tick s) quiet = go (forbids t (Ask j tick s))
+  where
+    go : (b : Bool) → saidOf (askAnswer b) ≡ fine (cond b saysWait saysGranted)
+    go true = refl
+    go false = refl
+change-said t (Release j tick s) quiet = refl
+change-said t (Complete j tick) quiet = absurd (true≢false quiet)
+
+-- ---- What soundness says that code relies on
+
+module _ (t : Table) (ok : sound t ≡ true) where
+  pub sound-last : t .last .0 < 2 ^ 63
+  unfolding sound all
+  sound-last =
+      let numbers : (holds (ranges (t .tokens) (t .resources) (t .limit)) && holds (counters (t .time) (t .last .0))) ≡ true =
+      and-left _ (distinct (t .rows)) (and-left _ (all (soundRow t) (t .rows)) ok) in
+      let both = and-right (holds (ranges (t .tokens) (t .resources) (t .limit))) (holds (counters (t .time) (t .last .0))) numbers in
+      let last = and-left (leb (t .last .0) highest) true (and-right (leb (t .time) highest) _ both) in
+      omega (arith, leb-true (t .last .0) highest last)
+
+  -- every live row's turn was given
+  given : (j : ℕ) → live (rowIn t j) ≡ true → rowIn t j .turn .0 ≤ t .last .0
+  unfolding sound all
+  given j alive =
+      let numbers = holds (ranges (t .tokens) (t .resources) (t .limit)) && holds (counters (t .time) (t .last .0)) in
+      let row = all-each (soundRow t) idle refl (t .rows) (and-right (numbers && distinct (t .rows)) (all (soundRow t) (t .rows)) ok) j in
+      leb-true (rowIn t j .turn .0) (t .last .0) (and-left _ _ (rw alive at row))
+
+  -- all who are in line stand before the next turn
+  pub all-ahead : length (line (t .rows)) ≡ ahead (t .rows) (t .last .0 + 1)
+  unfolding ahead
+  all-ahead =
+      sym (count-every (line (t .rows))) ∙ count-line (λ r. true) (t .rows)
+      ∙ count-and-true live (t .rows)
+      ∙ le-antisymm (count-mono (earlier (t .last .0 + 1)) idle refl live (t .rows) (t .rows) before)
+      (count-mono live idle refl (earlier (t .last .0 + 1)) (t .rows) (t .rows) (λ j e. and-left _ _ e))
+    where
+      before : (j : ℕ) → live (rowIn t j) ≡ true → earlier (t .last .0 + 1) (rowIn t j) ≡ true
+      before j e = turn-earlier (t .last .0 + 1) (rowIn t j) (ltb-true 0 (rowIn t j .turn .0) e) (omega (arith, given j e))

@@ -1,0 +1,9 @@
+-- What is said of the pass.
+pub mod GatherLaws
+pub mod Loops
+pub mod Pass
+pub mod PassLaws
+pub mod Prelude
+pub mod RiseLaws
+pub mod SurveyLaws
+pub mod WalkLaws

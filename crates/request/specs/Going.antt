@@ -1,0 +1,21 @@
+-- Who goes on after a change, and who is late, as code finds it out from a row and its standing.
+use Prim.Native.Nat.{ℕ, _-_}
+use mathlib.Core.Bool.{Bool, not, _&&_, _||_}
+use lib.Dec.{eqb, leb, ltb}
+use Rattle.laws.specs.Sets.{meets, union}
+use Rattle.rows.specs.declared.row.Row.{Row}
+use Rattle.rows.specs.declared.stand.Standing.{Standing}
+
+-- a request that goes on holds what it asked for, and has no waiting time
+abbrev pub goesOn : Row → Row
+goesOn r =
+    record { turn = r .turn; declared = r .declared; held = union (r .held) (r .asked); asked = 0; since = 0 }
+
+-- with this standing, which has a token, a row that has moved up wakes: it asks, or is the last that has a token, and what
+-- it asks for is free
+abbrev pub wakesBy : ℕ → Standing → Row → Bool
+wakesBy T s r = (ltb 0 (r .asked) || eqb (T - s .ahead) 1) && not (meets (s .claims) (r .asked))
+
+-- a live row, with a token or without one, waits, and its wait up to this time is the limit or more
+abbrev pub lateBy : Bool → ℕ → ℕ → Row → Bool
+lateBy token limit time r = (not token || ltb 0 (r .asked)) && leb limit (time - r .since)

@@ -1,0 +1,9 @@
+-- What is decided of one request.
+pub mod Beside
+pub mod BesideLaws
+pub mod Change
+pub mod Conditions
+pub mod Going
+pub mod Prelude
+pub mod Refusals
+pub mod Verdicts

@@ -1,0 +1,91 @@
+// What an accepted event makes of a row, and which rows a change lets go on.
+ghost use Prim.Native.Nat.{_-_, _<_, _^_};
+ghost use mathlib.Core.Path.{_≡_};
+ghost use Rattle.request.specs.Change.{asking, opening, releasing};
+ghost use Rattle.request.specs.Going.{goesOn, lateBy, wakesBy};
+use laws::sets;
+use rows::Row;
+use rows::Standing;
+use rows::Turn;
+
+// The row of a request that is opened: the next turn, and a wait from now on if it has no token.
+pub fn opened_row(last: Turn, token: bool, time: u64, set: u64) -> Row
+    requires { ⌜ last .0 < 2 ^ 63 ⌝ }
+    ensures { λ r. ⌜ r ≡ opening (last .0) token time set ⌝ }
+{
+    let turn = Turn(last.0 + 1);
+    let mut row = Row {
+        turn,
+        declared: set,
+        held: 0,
+        asked: 0,
+        since: time,
+    };
+    if token {
+        row.since = 0;
+    }
+    row
+}
+
+// The row of a request that asks: the whole set is held, or, if it is forbidden, the whole set is asked from now on.
+pub fn asked_row(r: Row, forbidden: bool, time: u64, set: u64) -> Row
+    ensures { λ x. ⌜ x ≡ asking r forbidden time set ⌝ }
+{
+    let mut row = r;
+    if forbidden {
+        row.asked = set;
+        row.since = time;
+        return row;
+    }
+    row.held = sets::union(r.held, set);
+    row
+}
+
+// The row of a request that releases: the members are no longer held.
+pub fn released_row(r: Row, set: u64) -> Row
+    ensures { λ x. ⌜ x ≡ releasing r set ⌝ }
+{
+    let mut row = r;
+    row.held = sets::without(r.held, set);
+    row
+}
+
+// Whether a row that moved up to this standing, which has a token, waited and need not wait any more: it asks for what
+// nobody before it declares, or it has had no token up to now.
+pub fn wakes(r: Row, s: Standing, tokens: u32) -> bool
+    requires { ⌜ s .ahead < tokens ⌝ }
+    ensures { λ b. ⌜ b ≡ wakesBy tokens s r ⌝ }
+{
+    if sets::meets(s.claims, r.asked) {
+        return false;
+    }
+    (0 < r.asked) | (tokens - s.ahead == 1)
+}
+
+// The row of a request that goes on: what it asked for it holds, and it has no waiting time.
+pub fn goes_on(r: Row) -> Row
+    ensures { λ x. ⌜ x ≡ goesOn r ⌝ }
+{
+    let mut row = r;
+    row.held = sets::union(r.held, r.asked);
+    row.asked = 0;
+    row.since = 0;
+    row
+}
+
+// How long it is from `since` to `time`.
+fn waited(time: u64, since: u64) -> u64
+    ensures { λ r. ⌜ r ≡ time - since ⌝ }
+{
+    if time < since {
+        return 0;
+    }
+    time - since
+}
+
+// Whether a live row, with a token or without one, waits and has waited for the limit or longer.
+pub fn is_late(r: Row, token: bool, limit: u32, time: u64) -> bool
+    ensures { λ b. ⌜ b ≡ lateBy token limit time r ⌝ }
+{
+    (!token | (0 < r.asked)) & (limit as u64 <= waited(time, r.since))
+}

@@ -1,0 +1,24 @@
+// What is decided of one request, from numbers and its row: whether the row is sound beside what stands before it, why an
+// event is refused, and what an accepted one makes of the row.
+mod change;
+mod seen;
+mod sound;
+mod verdict;
+
+pub use change::asked_row;
+pub use change::goes_on;
+pub use change::is_late;
+pub use change::opened_row;
+pub use change::released_row;
+pub use change::wakes;
+pub use seen::Bounds;
+pub use seen::Seen;
+pub use sound::idle_sound;
+pub use sound::in_range;
+pub use sound::live_sound;
+pub use sound::numbers_sound;
+pub use verdict::ask_verdict;
+pub use verdict::clock_verdict;
+pub use verdict::complete_verdict;
+pub use verdict::open_verdict;
+pub use verdict::release_verdict;

@@ -1,3 +1,0 @@
--- Laws that the proofs of single functions need.
-pub mod Places
-pub mod Seen

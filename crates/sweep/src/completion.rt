@@ -1,0 +1,58 @@
+// What a completion makes of the rows.
+ghost use Prim.Native.Nat.{_≤_};
+ghost use mathlib.Core.Bool.{true};
+ghost use mathlib.Core.Path.{_≡_};
+ghost use lib.ListN.{length};
+ghost use Rattle.event.specs.Limits.{jobs};
+ghost use Rattle.line.specs.LineInCode.{Lines};
+ghost use Rattle.request.specs.Beside.{soundBy};
+ghost use Rattle.sweep.specs.Sweeping.{Acts, Completed};
+use event::JOBS;
+use line::Line;
+use request::Bounds;
+use request::goes_on;
+use request::wakes;
+use rows::Row;
+use rows::behind;
+use rows::front;
+use rows::idle;
+
+// The rows after a completion, and how many jobs it woke.
+pub struct Swept {
+    pub rows: [Row; JOBS],
+    pub count: u32,
+}
+
+// Job k completes: its row is idle. Along the line, whoever waited and need not wait any more goes on, and is listed. Behind
+// the last that has a token nothing can change, so the loop ends there.
+pub fn completed(rows: [Row; JOBS], line: Line, b: Bounds, k: usize, woken: &mut [u8]) -> Swept
+    requires { ⌜ Lines rows line × (soundBy b rows ≡ true) ⌝ }
+    requires { ⌜ Acts (b .tokens) rows k × (jobs ≤ length (now woken)) ⌝ }
+    ensures { λ r. ⌜ Completed (b .tokens) rows k (now (woken .entry)) r (now (woken .exit)) ⌝ }
+{
+    let jobs = line.jobs;
+    let len = line.len;
+    let none = idle();
+    let mut next = rows;
+    next[k] = none;
+    let mut s = front();
+    let mut n: usize = 0;
+    let mut p = 0;
+    while (p < len) & (s.ahead < b.tokens) {
+        let job = jobs[p];
+        let at = job as usize;
+        if at != k {
+            let r = next[at];
+            if wakes(r, s, b.tokens) {
+                let x = goes_on(r);
+                next[at] = x;
+                woken[n] = job;
+                n += 1;
+            }
+            s = behind(s, r);
+        }
+        p += 1;
+    }
+    let count = n as u32;
+    Swept { rows: next, count }
+}
