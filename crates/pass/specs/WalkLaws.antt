@@ -167,7 +167,7 @@ module _ (rows : List Row) (l : Line) (lines : Lines rows l) where
 -- ---- At the end
 
 -- nothing stands before turn 0
-nobody-before : (rows : List Row) → Stands rows 0 front
+pub nobody-before : (rows : List Row) → Stands rows 0 front
 unfolding ahead
 nobody-before rows =
     let none : ahead rows 0 ≡ 0 =
