@@ -5,5 +5,3 @@ pub mod Change
 pub mod Conditions
 pub mod Going
 pub mod Prelude
-pub mod Refusals
-pub mod Verdicts

@@ -1,9 +1,8 @@
-// What is decided of one request, from numbers and its row: whether the row is sound beside what stands before it, why an
-// event is refused, and what an accepted one makes of the row.
+// What is decided of one request, from numbers and its row: whether the row is sound beside what stands before it, what an
+// accepted event makes of the row, whether it wakes and whether it is late.
 mod change;
 mod seen;
 mod sound;
-mod verdict;
 
 pub use change::asked_row;
 pub use change::goes_on;
@@ -17,8 +16,3 @@ pub use sound::idle_sound;
 pub use sound::in_range;
 pub use sound::live_sound;
 pub use sound::numbers_sound;
-pub use verdict::ask_verdict;
-pub use verdict::clock_verdict;
-pub use verdict::complete_verdict;
-pub use verdict::open_verdict;
-pub use verdict::release_verdict;

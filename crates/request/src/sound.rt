@@ -28,8 +28,7 @@ pub fn in_range(tokens: u32, resources: u32, limit: u32) -> bool
 pub fn numbers_sound(b: Bounds) -> bool
     ensures { λ r. ⌜ r ≡ (holds (ranges (b .tokens) (b .resources) (b .limit)) && holds (counters (b .time) (b .last .0))) ⌝ }
 {
-    let last = b.last;
-    in_range(b.tokens, b.resources, b.limit) & (b.time <= HIGHEST) & !earlier(Turn(HIGHEST), last)
+    in_range(b.tokens, b.resources, b.limit) & (b.time <= HIGHEST) & !earlier(Turn(HIGHEST), b.last)
 }
 
 // Whether an idle row is zero.

@@ -11,7 +11,7 @@ joined a b c = rw (and-true, and-assoc)
 
 returns : tie.Need-returns
 returns c =
-    let b = c .before .before .before .before .args .b in
+    let b = c .before .before .before .args .b in
     ap₂ (λ (x y : Bool). (x && leb (b .time) highest) && y) (c .before .before .in-range .ensures)
     (ap not (c .earlier .ensures) ∙ not-ltb highest (b .last .0))
     ∙ joined (holds (ranges (b .tokens) (b .resources) (b .limit))) (leb (b .time) highest) (leb (b .last .0) highest)
