@@ -1,4 +1,3 @@
 -- Laws that the proofs of single functions need.
-pub mod Answering
 pub mod Arrays
 pub mod Surveys

@@ -3,8 +3,8 @@ use Rattle.arbiter.specs.Prelude.{Count, No}
 use Prim.Native.Nat.{ℕ}
 use Rattle.event.specs.Refusals.{numberOf}
 use Rattle.laws.specs.Cases.{Outcome, refused, fine}
-use Rattle.arbiter.specs.declared.table.Answer.{Answer}
-use Rattle.arbiter.specs.declared.table.Answer.the-variants as Answers
+use Rattle.decision.specs.declared.answer.Answer.{Answer}
+use Rattle.decision.specs.declared.answer.Answer.the-variants as Answers
 use Rattle.arbiter.specs.declared.table.Late.{Late}
 use Rattle.arbiter.specs.declared.table.Late.the-variants as Lates
 use Rattle.arbiter.specs.declared.table.Report.{Report}

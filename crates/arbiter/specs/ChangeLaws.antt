@@ -1,7 +1,8 @@
 -- What an event comes to on a table, by what it sees of it.
 use Rattle.arbiter.specs.Prelude.{Bool, Table, Ask, Beat, Call, Change, Complete, Event, List, Open, Release, Row, Seen, [], _+_, _∙_, _∷_, _≡_, about, ap, appliesTo, blocked, casesBy, cond, false, fine, getD, idle, jobOf, not, outcome, outcome-is, refl, refused, seenBy, set, setOf, soundBy, suc, sym, this, token, true, true≢false, zero, ℕ, _&&_, _<_, _^_, _≤_, ahead, all, all-each, and-left, and-right, arith, count-and-true, count-every, count-line, count-mono, distinct, earlier, highest, holds, le-antisymm, leb, leb-true, length, line, live, ltb-true, turn-earlier, Description, refusalsOf, Survey, Surveyed}
-use Rattle.arbiter.specs.Changes.{askAnswer, boundsOf, changeFor, decided, openAnswer, refusalCases}
-use Rattle.arbiter.specs.declared.deciding.Decision.{Decision}
+use Rattle.decision.specs.Changes.{askAnswer, changeFor, decided, openAnswer, refusalCases}
+use Rattle.arbiter.specs.Bounded.{boundsOf}
+use Rattle.decision.specs.declared.deciding.Decision.{Decision}
 use Rattle.arbiter.specs.Meaning.{accepted, moved, said, wakes}
 use Rattle.arbiter.specs.Refusals.{applies, seenIn}
 use Rattle.arbiter.specs.Sound.{counters, ranges, rowIn, sound, soundRow}

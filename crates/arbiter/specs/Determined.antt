@@ -3,10 +3,10 @@ use Rattle.arbiter.specs.Prelude.{Answer, Change, Count, Event, Late, Li
 use Rattle.arbiter.specs.Answers.{Said, lateOf, reportOf, saidOf, saysDone, saysGranted, saysToken, saysWait, saysWoke}
 use Rattle.arbiter.specs.Effects.{Does}
 use Rattle.arbiter.specs.Promises.{Answered, AnsweredInto, ReportAnswered, Started, OverdueAnswered}
-use Rattle.arbiter.specs.Changes.{decided}
-use Rattle.arbiter.specs.declared.deciding.Decision.{Decision}
-use Rattle.arbiter.specs.declared.deciding.Decision.the-variants as Decisions
-use Rattle.arbiter.specs.declared.table.Answer.the-variants as Answers
+use Rattle.decision.specs.Changes.{decided}
+use Rattle.decision.specs.declared.deciding.Decision.{Decision}
+use Rattle.decision.specs.declared.deciding.Decision.the-variants as Decisions
+use Rattle.decision.specs.declared.answer.Answer.the-variants as Answers
 use Rattle.arbiter.specs.declared.table.Late.the-variants as Lates
 use Rattle.arbiter.specs.declared.table.Reported.the-variants as Reporteds
 

@@ -1,25 +1,24 @@
 -- The names from outside that this crate's definitions and proofs use, passed on by one module.
-pub use Prim.Native.Nat.{_+_, _-_, _<_, _^_, _≤_, suc, zero, ℕ}
-pub use mathlib.Core.Bool.{Bool, _&&_, and-true, cond, false, not, true, true≢false}
+pub use Prim.Native.Nat.{_+_, _<_, _^_, _≤_, suc, zero, ℕ}
+pub use mathlib.Core.Bool.{Bool, _&&_, cond, false, not, true, true≢false}
 pub use mathlib.Core.List.{List, [], _++_, _∷_, map}
 pub use mathlib.Core.Logic.{_↔_}
-pub use mathlib.Core.Path.{_∙_, _≡_, ap, ap₂, fun-ext, refl, subst, sym}
+pub use mathlib.Core.Path.{_∙_, _≡_, ap, refl, subst, sym}
 pub use native.Mathlib.Nat.{le-antisymm}
 pub use native.Mathlib.Omega.{arith}
 pub use borrow.Author.Needs.{needs}
-pub use borrow.Author.Tests.{eq-eqb, eqb-false, eqb-true, le-leb, le-ltb, leb-false, leb-true, lt-leb, lt-ltb, ltb-false, ltb-true, ne-eqb, not-false, not-true}
+pub use borrow.Author.Tests.{eqb-false, eqb-true, le-leb, le-ltb, leb-false, leb-true, lt-leb, lt-ltb, ltb-false, ltb-true, not-false}
 pub use lib.Dec.{eqb, leb, ltb}
-pub use lib.ListN.{drop, drop-of-length-le, getD, length, length-map, replicate, set}
-pub use Rattle.laws.specs.BoolLaws.{and-left, and-right, not-ltb}
-pub use Rattle.laws.specs.CaseLaws.{acceptance-tells, clear, leaves-is, leaves-same, outcome-back, outcome-front, outcome-is, outcome-past, refusal-tells}
-pub use Rattle.laws.specs.Cases.{Case, Outcome, ascending, fine, leaves, outcome, positive, refused}
+pub use lib.ListN.{getD, length, length-map, replicate, set}
+pub use Rattle.laws.specs.BoolLaws.{and-left, and-right}
+pub use Rattle.laws.specs.CaseLaws.{acceptance-tells, clear, leaves-is, leaves-same, outcome-is, outcome-past, refusal-tells}
+pub use Rattle.laws.specs.Cases.{Case, Outcome, ascending, fine, leaves, outcome, refused}
 unfoldable pub use Rattle.laws.specs.Cases.{ascends, case}
 pub use Rattle.laws.specs.Chains.{_and_, none, past, this}
 pub use Rattle.laws.specs.Counts.{all-each, count-and-true, count-every, count-mono}
 pub use Rattle.laws.specs.Determined.{determined, told-apart}
 unfoldable pub use Rattle.laws.specs.Front.{over}
 pub use Rattle.laws.specs.HoldLaws.{hold, nth}
-pub use Rattle.laws.specs.ListLaws.{Filled, all-append, all-drop, filled-more}
 unfoldable pub use Rattle.laws.specs.Lists.{all}
 pub use Rattle.laws.specs.Lists.{holds}
 pub use Rattle.laws.specs.Members.{Above, Apart, Beyond, None, Shared, Some, Under, Within}
@@ -28,44 +27,38 @@ pub use Rattle.laws.specs.ReadsLaws.{reading, reads-not}
 pub use Rattle.laws.specs.SetLaws.{below-reads, empty, inside-reads, meets-reads, some-member}
 pub use Rattle.laws.specs.Sets.{below, inside, meets, member}
 pub use Rattle.event.specs.Answers.{answerBy}
-pub use Rattle.event.specs.Clock.{clockRefusals, goneBack, momentOf, timeSpent}
-unfoldable pub use Rattle.event.specs.Clock.{forward}
+pub use Rattle.event.specs.Clock.{momentOf}
 pub use Rattle.event.specs.EventLaws.{every-kind}
 pub use Rattle.event.specs.Events.{Description, about, refusalsOf, described, jobOf, kindOf, setOf, tickOf}
 pub use Rattle.event.specs.Limits.{highest, jobs}
-pub use Rattle.event.specs.RefusalLaws.{cases-positive, refusalOf-numberOf}
-pub use Rattle.event.specs.Refusals.{casesBy, numberOf, refusing}
-pub use Rattle.event.specs.declared.clock.Moment.{Moment}
+pub use Rattle.event.specs.RefusalLaws.{refusalOf-numberOf}
+pub use Rattle.event.specs.Refusals.{casesBy, numberOf}
 pub use Rattle.event.specs.declared.clock.Tick.{Tick}
 pub use Rattle.event.specs.declared.events.Event.{Event}
 pub use Rattle.event.specs.declared.events.Event.the-variants.{Ask, Beat, Complete, Open, Release}
 pub use Rattle.event.specs.declared.refusal.Refusal.{Refusal}
-pub use Rattle.event.specs.declared.refusal.Refusal.the-variants.{AlreadyHeld, AlreadyLive, BadStart, BitSet, ClockGoneBack, EmptySet, NoSuchJob, NoSuchResource, NoToken, NotDeclared, NotHeld, NotLive, ShortList, StartOutOfPlace, StillWaiting, TimeSpent, TurnsSpent, UnknownKind, UnsoundTable, WrongLength}
+pub use Rattle.event.specs.declared.refusal.Refusal.the-variants.{ShortList}
 pub use Rattle.rows.specs.InLine.{count-line}
 pub use Rattle.rows.specs.InWay.{in-way-at, in-way-some}
-pub use Rattle.rows.specs.KnownLaws.{token-by, waiting-by}
+pub use Rattle.rows.specs.KnownLaws.{waiting-by}
 pub use Rattle.rows.specs.Line.{line, rowOf}
-pub use Rattle.line.specs.LineInCode.{Lines, Listed}
+pub use Rattle.line.specs.LineInCode.{Listed}
 pub use Rattle.rows.specs.Order.{blocked, distinct, earlier, idle, inWay, live, token}
 unfoldable pub use Rattle.rows.specs.Order.{ahead}
 pub use Rattle.rows.specs.Propositions.{InTheWay}
-pub use Rattle.rows.specs.Stand.{Stands}
-pub use Rattle.rows.specs.Sweep.{settled, woke}
-unfoldable pub use Rattle.rows.specs.Sweep.{woken}
 pub use Rattle.rows.specs.declared.row.Row.{Row}
-pub use Rattle.rows.specs.declared.stand.Standing.{Standing}
 pub use Rattle.request.specs.declared.seen.Bounds.{Bounds}
 pub use Rattle.request.specs.declared.seen.Seen.{Seen}
-pub use Rattle.arbiter.specs.declared.table.Answer.{Answer}
+pub use Rattle.decision.specs.declared.answer.Answer.{Answer}
 pub use Rattle.arbiter.specs.declared.table.Late.{Late}
 pub use Rattle.arbiter.specs.declared.table.Late.the-variants.{Count, No}
 pub use Rattle.arbiter.specs.declared.table.Next.{Next}
 pub use Rattle.arbiter.specs.declared.table.Reported.{Reported}
 pub use Rattle.arbiter.specs.declared.table.Table.{Table}
-pub use Rattle.arbiter.specs.declared.deciding.Change.{Change}
+pub use Rattle.decision.specs.declared.deciding.Change.{Change}
 pub use Rattle.request.specs.Beside.{seenBy}
 unfoldable pub use Rattle.request.specs.Beside.{soundBy}
-pub use Rattle.request.specs.Refusals.{Call, appliesTo, calling, timeFrom}
+pub use Rattle.verdict.specs.Refusals.{Call, appliesTo, calling, timeFrom}
 pub use Rattle.rows.specs.Turns.{turn-earlier}
 pub use Rattle.pass.specs.Pass.{Known, Surveyed}
 pub use Rattle.pass.specs.declared.known.Survey.{Survey}

@@ -7,18 +7,18 @@ ghost use Rattle.event.specs.Events.{about};
 ghost use Rattle.event.specs.Limits.{jobs};
 ghost use Rattle.event.specs.declared.events.Event.the-variants.{Ask, Beat, Complete, Open, Release};
 ghost use Rattle.arbiter.specs.ChangeLaws.{Decides, Finds};
-ghost use Rattle.arbiter.specs.Changes.{boundsOf};
+ghost use Rattle.arbiter.specs.Bounded.{boundsOf};
 ghost use Rattle.arbiter.specs.Effects.{Refuses};
 ghost use Rattle.arbiter.specs.Meaning.{moved};
 ghost use Rattle.arbiter.specs.Promises.{Answered, AnsweredInto, OverdueAnswered, ReportAnswered, Started};
-use crate::deciding::Decision;
-use crate::deciding::decide;
-use crate::table::Answer;
 use crate::table::Late;
 use crate::table::Next;
 use crate::table::Report;
 use crate::table::Reported;
 use crate::table::Table;
+use decision::Answer;
+use decision::Decision;
+use decision::decide;
 use event::Event;
 use event::JOBS;
 use event::Moment;
@@ -29,8 +29,6 @@ use laws::sets;
 use pass::Survey;
 use pass::survey;
 use request::Bounds;
-use request::clock_verdict;
-use request::complete_verdict;
 use request::in_range;
 use rows::Row;
 use rows::Turn;
@@ -40,6 +38,8 @@ use rows::waiting;
 use sweep::completed;
 use sweep::in_way;
 use sweep::list_late;
+use verdict::clock_verdict;
+use verdict::complete_verdict;
 
 // The refusal, and the table as it was.
 fn refused(t: Table, refusal: Refusal) -> Next
@@ -52,7 +52,7 @@ fn refused(t: Table, refusal: Refusal) -> Next
 }
 
 // The numbers of a table.
-fn bounds(t: Table) -> Bounds
+pub fn bounds(t: Table) -> Bounds
     ensures { λ b. ⌜ b ≡ boundsOf t ⌝ }
 {
     let last = t.last;

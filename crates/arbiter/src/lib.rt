@@ -1,9 +1,8 @@
 // The arbiter: a table of locking requests, the events that change it and the questions about it.
 mod calls;
-mod deciding;
 mod table;
 
-pub use table::Answer;
+pub use calls::bounds;
 pub use table::Late;
 pub use table::Next;
 pub use table::Report;

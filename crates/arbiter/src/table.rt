@@ -1,4 +1,5 @@
 // The table, and what the calls on it answer. What firmware holds is laid out as in C (`repr(C)`).
+use decision::Answer;
 use event::JOBS;
 use event::Refusal;
 use rows::Row;
@@ -13,16 +14,6 @@ pub struct Table {
     pub time: u64,
     pub last: Turn,
     pub rows: [Row; JOBS],
-}
-
-// What an event is answered. A later case goes at the end.
-pub enum Answer {
-    No(Refusal),
-    Token,
-    Granted,
-    Wait,
-    Done,
-    Woke(u32),
 }
 
 // An answer and the next table.

@@ -2,11 +2,11 @@
 use Rattle.arbiter.specs.Prelude.{Case, List, _∙_, ap, arith, jobOf, jobs, needs, outcome, refl, set, sym, below, refused}
 use Rattle.event.specs.declared.events.Parts.{Parts}
 use Rattle.arbiter.specs.ChangeLaws.{changeOn}
-use Rattle.arbiter.specs.Changes.{decided}
+use Rattle.decision.specs.Changes.{decided}
 use Rattle.arbiter.specs.Meaning.{moved}
 use Rattle.arbiter.specs.Refusals.{seenIn}
-use Rattle.arbiter.proofs.Answering.{refused-answers}
-use Rattle.arbiter.proofs.Surveys.{changes-answer, has-row, quiet-cases}
+use Rattle.arbiter.specs.Answering.{refused-answers}
+use Rattle.arbiter.specs.Carrying.{changes-answer, has-row, quiet-cases}
 use Rattle.arbiter.proofs.calls.written.Statement.{statement}
 use Rattle.arbiter.proofs.calls.written.Tie as tie
 

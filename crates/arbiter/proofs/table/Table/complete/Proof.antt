@@ -1,11 +1,14 @@
 -- A refusal leaves the table and the list; an accepted completion does what it means.
 use Rattle.arbiter.specs.Prelude.{Bounds, Complete, Surveyed, acceptance-tells, le-ltb, lt-ltb, needs, outcome-is, outcome-past, refl, subst, sym, this, timeFrom, ℕ, _∙_, Acts, _≡_, momentOf, outcome, refused, soundBy, true}
 use Rattle.arbiter.specs.ChangeLaws.{sound-by}
-use Rattle.arbiter.specs.Changes.{boundsOf, refusalCases}
+use Rattle.decision.specs.Changes.{refusalCases}
+use Rattle.arbiter.specs.Bounded.{boundsOf}
 use Rattle.arbiter.specs.Meaning.{timeAt}
 use Rattle.arbiter.specs.Refusals.{seenIn}
-use Rattle.arbiter.proofs.Answering.{accepted-answers-into, refused-answers-into}
-use Rattle.arbiter.proofs.Surveys.{completed-by, completion-does, judged, may-act, saw-sound, seen-tells}
+use Rattle.arbiter.specs.Answering.{accepted-answers-into, refused-answers-into}
+use Rattle.decision.specs.Accepting.{judged, saw-sound}
+use Rattle.arbiter.specs.Carrying.{completion-does, may-act}
+use Rattle.arbiter.proofs.Surveys.{completed-by, seen-tells}
 use Rattle.arbiter.proofs.table.Table.complete.Statement.{statement}
 use Rattle.arbiter.proofs.table.Table.complete.Tie as tie
 

@@ -1,11 +1,13 @@
 -- A refusal leaves the list; an accepted question lists who is overdue.
 use Rattle.arbiter.specs.Prelude.{Bounds, Surveyed, acceptance-tells, ap, fine, lt-ltb, outcome-is, refusal-tells, subst, sym, this, timeFrom, ℕ, _∙_, Beat, Count, List, Listed, No, Refusal, ShortList, Table, _≡_, lateIn, length, momentOf, numberOf, outcome, over, refused, le-ltb, needs, outcome-past, soundBy, true}
-use Rattle.arbiter.specs.Changes.{boundsOf, refusalCases}
+use Rattle.decision.specs.Changes.{refusalCases}
+use Rattle.arbiter.specs.Bounded.{boundsOf}
 use Rattle.arbiter.specs.Meaning.{late, overdue, overdueList, timeAt}
 use Rattle.arbiter.specs.Promises.{OverdueAnswered}
 use Rattle.arbiter.specs.Refusals.{overdueCases, seenIn}
 use Rattle.arbiter.specs.ChangeLaws.{sound-by}
-use Rattle.arbiter.proofs.Surveys.{judged, listed-by, saw-sound, seen-tells}
+use Rattle.decision.specs.Accepting.{judged, saw-sound}
+use Rattle.arbiter.proofs.Surveys.{listed-by, seen-tells}
 use Rattle.arbiter.proofs.table.Table.overdue.Statement.{statement}
 use Rattle.arbiter.proofs.table.Table.overdue.Tie as tie
 

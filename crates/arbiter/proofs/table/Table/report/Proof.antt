@@ -1,7 +1,7 @@
 -- The three tests are the three cases, in their order.
 use Rattle.arbiter.specs.Prelude.{Bounds, Surveyed, ap, fine, le-leb, live, lt-leb, needs, none, not, not-false, outcome-is, past, subst, sym, this, true, _∙_, _≡_, Seen}
 use Rattle.arbiter.specs.ChangeLaws.{seen-by, sound-by}
-use Rattle.arbiter.specs.Changes.{boundsOf}
+use Rattle.arbiter.specs.Bounded.{boundsOf}
 use Rattle.arbiter.specs.Meaning.{report}
 use Rattle.arbiter.specs.Sound.{rowIn, sound}
 use Rattle.arbiter.proofs.Surveys.{report-is}

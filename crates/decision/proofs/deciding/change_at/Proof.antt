@@ -1,7 +1,7 @@
 -- What each kind of event changes is what its own functions make.
-use Rattle.arbiter.specs.Prelude.{needs, _∙_}
-use Rattle.arbiter.proofs.deciding.change_at.Statement.{statement}
-use Rattle.arbiter.proofs.deciding.change_at.Tie as tie
+use Rattle.decision.specs.Prelude.{needs, _∙_}
+use Rattle.decision.proofs.deciding.change_at.Statement.{statement}
+use Rattle.decision.proofs.deciding.change_at.Tie as tie
 
 returns : tie.Need-returns
 returns c = rw (c .before .enum-told .given .1) (c .keeping .ensures)

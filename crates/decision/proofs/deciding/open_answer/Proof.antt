@@ -1,6 +1,6 @@
 -- Each answer is that of the definition.
-use Rattle.arbiter.proofs.deciding.open_answer.Statement.{statement}
-use Rattle.arbiter.proofs.deciding.open_answer.Tie as tie
+use Rattle.decision.proofs.deciding.open_answer.Statement.{statement}
+use Rattle.decision.proofs.deciding.open_answer.Tie as tie
 
 returns : tie.Need-returns
 returns c = rw (c .if1 .taken)

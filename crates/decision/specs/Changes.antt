@@ -1,5 +1,4 @@
--- What an event comes to, from what it sees of the table, as code finds it out. With what a table shows it is what the
--- meaning says.
+-- What an event comes to, from what it sees of the table, as code finds it out.
 use Prim.Native.Nat.{ℕ, _+_}
 use mathlib.Core.Bool.{Bool, cond}
 use mathlib.Core.List.{List}
@@ -9,21 +8,14 @@ use Rattle.event.specs.declared.events.Event.{Event}
 use Rattle.event.specs.declared.events.Event.the-variants.{Beat, Open, Ask, Release, Complete}
 use Rattle.laws.specs.Cases.{Case, Outcome, fine, refused}
 use Rattle.request.specs.Change.{asking, opening, releasing}
-use Rattle.request.specs.Refusals.{calling, eventCases, timeFrom}
-use Rattle.request.specs.declared.seen.Bounds.{Bounds}
+use Rattle.verdict.specs.Refusals.{calling, eventCases, timeFrom}
 use Rattle.request.specs.declared.seen.Seen.{Seen}
 use Rattle.rows.specs.declared.row.Row.{Row}
-use Rattle.arbiter.specs.declared.deciding.Change.{Change}
-use Rattle.arbiter.specs.declared.deciding.Decision.{Decision}
-use Rattle.arbiter.specs.declared.deciding.Decision.the-variants.{No, Goes}
-use Rattle.arbiter.specs.declared.table.Answer.{Answer}
-use Rattle.arbiter.specs.declared.table.Answer.the-variants as Answers
-use Rattle.arbiter.specs.declared.table.Table.{Table}
-
--- the numbers of a table
-abbrev pub boundsOf : Table → Bounds
-boundsOf t =
-    record { tokens = t .tokens; resources = t .resources; limit = t .limit; time = t .time; last = t .last }
+use Rattle.decision.specs.declared.deciding.Change.{Change}
+use Rattle.decision.specs.declared.deciding.Decision.{Decision}
+use Rattle.decision.specs.declared.deciding.Decision.the-variants.{No, Goes}
+use Rattle.decision.specs.declared.answer.Answer.{Answer}
+use Rattle.decision.specs.declared.answer.Answer.the-variants as Answers
 
 -- the cases of an event that sees s, but for those of a lent list
 abbrev pub refusalCases : Seen → Event → List Case

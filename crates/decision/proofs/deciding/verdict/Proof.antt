@@ -1,7 +1,7 @@
 -- The verdict on each kind of event is that of its own function.
-use Rattle.arbiter.specs.Prelude.{needs}
-use Rattle.arbiter.proofs.deciding.verdict.Statement.{statement}
-use Rattle.arbiter.proofs.deciding.verdict.Tie as tie
+use Rattle.decision.specs.Prelude.{needs}
+use Rattle.decision.proofs.deciding.verdict.Statement.{statement}
+use Rattle.decision.proofs.deciding.verdict.Tie as tie
 
 returns : tie.Need-returns
 returns c = rw (c .before .before .event .given .1) (c .clock-verdict .ensures)

@@ -5,23 +5,23 @@ ghost use mathlib.Core.Path.{_≡_};
 ghost use Rattle.event.specs.Clock.{momentOf};
 ghost use Rattle.event.specs.Events.{tickOf};
 ghost use Rattle.laws.specs.Cases.{outcome};
-ghost use Rattle.request.specs.Refusals.{timeFrom};
-ghost use Rattle.arbiter.specs.Changes.{askAnswer, changeAt, changeFor, decided, keeps, openAnswer, opens, refusalCases};
-use crate::table::Answer;
+ghost use Rattle.verdict.specs.Refusals.{timeFrom};
+ghost use Rattle.decision.specs.Changes.{askAnswer, changeAt, changeFor, decided, keeps, openAnswer, opens, refusalCases};
+use crate::answer::Answer;
 use event::Event;
 use event::Moment;
 use event::Refusal;
 use request::Seen;
-use request::ask_verdict;
 use request::asked_row;
-use request::clock_verdict;
-use request::complete_verdict;
-use request::open_verdict;
 use request::opened_row;
-use request::release_verdict;
 use request::released_row;
 use rows::Row;
 use rows::Turn;
+use verdict::ask_verdict;
+use verdict::clock_verdict;
+use verdict::complete_verdict;
+use verdict::open_verdict;
+use verdict::release_verdict;
 
 // What an accepted event changes: the answer, true time, the last turn, and the row of its job. A completion changes no row
 // by itself, and what it wakes is found out along the line.
@@ -119,7 +119,7 @@ fn change_at(event: Event, s: Seen, time: u64, forbidden: bool, token: bool) -> 
 }
 
 // What an event comes to. Whether Q3 forbids its set, and whether a request opened now would have a token, is handed in.
-pub(crate) fn decide(event: Event, s: Seen, forbidden: bool, token: bool) -> Decision
+pub fn decide(event: Event, s: Seen, forbidden: bool, token: bool) -> Decision
     requires { ⌜ (s .sound ≡ true → s .last .0 < 2 ^ 63) ⌝ }
     ensures { λ d. ⌜ decided d ≡ outcome (refusalCases s event) (changeFor s forbidden token event) ⌝ }
 {

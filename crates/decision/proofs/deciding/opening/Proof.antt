@@ -1,7 +1,7 @@
 -- Every field is that of the definition.
-use Rattle.arbiter.specs.Prelude.{needs}
-use Rattle.arbiter.proofs.deciding.opening.Statement.{statement}
-use Rattle.arbiter.proofs.deciding.opening.Tie as tie
+use Rattle.decision.specs.Prelude.{needs}
+use Rattle.decision.proofs.deciding.opening.Statement.{statement}
+use Rattle.decision.proofs.deciding.opening.Tie as tie
 
 returns : tie.Need-returns
 returns c = rw (c .open-answer .ensures, c .before .before .opened-row .ensures)

@@ -1,9 +1,10 @@
 -- A refused verdict is the decision; an accepted one gives the time at which the event changes what it changes.
-use Rattle.arbiter.specs.Prelude.{acceptance-tells, ap, fine, needs, refusal-tells, sym, tickOf, timeFrom, ℕ, _∙_}
-use Rattle.arbiter.specs.Changes.{changeAt, changeFor, refusalCases}
-use Rattle.arbiter.proofs.Surveys.{judged, saw-sound}
-use Rattle.arbiter.proofs.deciding.decide.Statement.{statement}
-use Rattle.arbiter.proofs.deciding.decide.Tie as tie
+use Rattle.decision.specs.Prelude.{acceptance-tells, ap, fine, needs, refusal-tells, sym, tickOf, timeFrom, ℕ, _∙_}
+use Rattle.decision.specs.Changes.{changeAt, changeFor, refusalCases}
+use Rattle.decision.specs.Accepting.{saw-sound}
+use Rattle.decision.specs.Accepting.{judged}
+use Rattle.decision.proofs.deciding.decide.Statement.{statement}
+use Rattle.decision.proofs.deciding.decide.Tie as tie
 
 change-at-requires : tie.Need-change-at-requires
 change-at-requires c κs =
