@@ -2,3 +2,4 @@
 pub mod Lines
 pub mod Prelude
 pub mod Promises
+pub mod WordLaws

@@ -8,9 +8,9 @@ ghost use Rattle.decimal.specs.Text.{ascii, text};
 ghost use Rattle.laws.specs.Front.{Wrote};
 ghost use Rattle.lines.specs.Lines.{endLine, items, line, no, ok, wordText};
 ghost use Rattle.lines.specs.Promises.{lineRoom, wordFrom, wordRoom};
-use arbiter::Answer;
 use arbiter::Table;
 use decimal::put;
+use decision::Answer;
 use event::JOBS;
 use rows::live_count;
 
