@@ -1,0 +1,3 @@
+-- Laws that the proofs of single functions need.
+mod Answered
+mod Midway
