@@ -2,6 +2,7 @@
 pub mod BlockLaws
 pub mod Blocks
 pub mod Determined
+pub mod GoingLaws
 pub mod Inner
 pub mod LineLaws
 pub mod Listing
