@@ -1,4 +1,2 @@
--- What the contracts of this crate say.
-pub mod Calls
-pub mod Layout
+-- What the proofs of this crate use.
 pub mod Prelude

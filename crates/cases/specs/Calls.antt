@@ -1,0 +1,44 @@
+-- The calls by their numbers, and what is handed to them.
+use Prim.Native.Nat.{ℕ, _-_}
+use mathlib.Core.Bool.{cond}
+use mathlib.Core.Option.{Option, some, none}
+use lib.Dec.{eqb, ltb}
+use Rattle.arbiter.specs.declared.table.Table.{Table}
+use Rattle.event.specs.Events.{eventOf, kindNumbered, parts}
+use Rattle.event.specs.declared.events.Event.{Event}
+use Rattle.event.specs.declared.events.Kind.{Kind}
+use Rattle.event.specs.declared.events.Start.{Start}
+use Rattle.cases.specs.declared.calls.Asked.{Asked}
+use Rattle.cases.specs.declared.calls.Asked.the-variants.{Nothing, For}
+use Rattle.cases.specs.declared.calls.Call.{Call}
+use Rattle.cases.specs.declared.calls.Call.the-variants as call
+use Rattle.cases.specs.declared.layout.Case.{Case}
+
+-- the call of a kind, if there is one
+abbrev pub askedOf : (Kind → Call) → Option Kind → Asked
+askedOf f none = Nothing
+askedOf f (some k) = For (f k)
+
+-- from here on an event is written, not made
+abbrev pub writing : ℕ
+writing = 8
+
+-- the calls of events: by the kind's number, and where they are written by that and `writing`
+abbrev pub eventCallNumbered : ℕ → Asked
+eventCallNumbered n =
+    cond (ltb n writing) (askedOf call.Event (kindNumbered n)) (askedOf call.Write (kindNumbered (n - writing)))
+
+-- what a number asks for
+abbrev pub callNumbered : ℕ → Asked
+callNumbered n =
+    cond (eqb n 5) (For call.Report)
+    (cond (eqb n 6) (For call.Overdue)
+    (cond (eqb n 7) (For call.Start)
+    (cond (eqb n 13) (For call.WriteStart) (eventCallNumbered n))))
+
+-- the event of that kind that a case hands over, and its start
+abbrev pub caseEvent : Case → Kind → Event
+caseEvent c k = eventOf (parts k (c .job) (c .tick) (c .set))
+
+abbrev pub caseStart : Case → Table → Start
+caseStart c t = record { tokens = t .tokens; resources = t .resources; tick = c .tick; limit = t .limit }

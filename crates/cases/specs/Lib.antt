@@ -1,0 +1,4 @@
+-- What the contracts of this crate say.
+pub mod Calls
+pub mod Layout
+pub mod Prelude
