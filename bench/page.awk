@@ -1,4 +1,5 @@
-# Writes docs/bench.md from what bench/run counted: what is around a call, the calls, the replays.
+# Writes docs/bench.md from what bench/run counted (what is around a call, the calls, the replays) and from bench/before.tsv,
+# what the calls and the replays took when every call looked at all rows for each row (commit fe5bd26).
 file == 1 { alone[$1] = $2; listed[$1] = $3 }
 file == 2 { n[$1, $2, $3] = $4; p[$1, $2, $3] = $5; t[$1, $2, $3] = $6 }
 file == 3 {
@@ -7,6 +8,9 @@ file == 3 {
     live[replays] = $2
     for (i = 3; i <= 5; i++) replay[replays, i] = $i
 }
+
+file == 4 && $1 == "before" { was[$2, $3] = $4 }
+file == 4 && $1 == "replayed" { replayed[$3, $2] = $4 }
 
 function row(order, size, call, shown) {
     if ((order, size, call) in n)
@@ -30,6 +34,26 @@ function growth(i, s, line) {
         for (s = 1; s <= 64; s *= 2) line = line cell(calls[i], s)
         print line
     }
+}
+
+# What it took before, and what it takes now.
+function earlier(i, s, line) {
+    print "\n| Call | 1 | 2 | 4 | 8 | 16 | 32 | 64 |"
+    print "|---|---|---|---|---|---|---|---|"
+    for (i = 1; i <= 8; i++) {
+        line = "| " name_of(calls[i]) " |"
+        for (s = 1; s <= 64; s *= 2)
+            line = line ((s, calls[i]) in was ? " " big(was[s, calls[i]]) " → " big(n["rising", s, calls[i]]) " |" : " |")
+        print line
+    }
+}
+
+function replays_earlier(i) {
+    print "\n| Records | Live rows | Before | Now | plain, no test |"
+    print "|---|---|---|---|---|"
+    for (i = 1; i <= replays; i++)
+        printf "| %s | %s | %s | %s | %s |\n", name_of(name[i]), live[i], big(replayed[name_of(name[i]), live[i]]), \
+            big(replay[i, 3]), big(replay[i, 5])
 }
 
 function cell(call, size) {
@@ -94,6 +118,10 @@ END {
     print "\n## How it grows with the live rows\n"
     print "Norakkeun's instructions, and how many times the plain program's they are, turns in order of job."
     growth()
-    print "\n![Instructions of an ask and of a completion by live rows](bench.svg)"
+    print "\nBefore, when every call looked at all rows for each row (commit fe5bd26), and now:"
+    earlier()
+    print "\n![Instructions of an ask and of a completion by live rows, before and now](bench.svg)"
     replays_part()
+    print "\nBefore, when the table was tested at each record, and now, once for a block:"
+    replays_earlier()
 }

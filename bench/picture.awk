@@ -1,13 +1,13 @@
-# Draws docs/bench.svg: the instructions of two calls by live rows, both axes by powers.
+# Draws docs/bench.svg: the instructions of two calls by live rows, and what they were before, both axes by powers.
 BEGIN {
     FS = "\t"
     left = 90; right = 610; top = 60; bottom = 430
     lowest = 2; highest = 6 # powers of ten
-    split("norakkeun plain trusting", programs, " ")
-    split("Norakkeun|plain|plain, no soundness test", said, "|")
-    split("#1b4f9c #c8601a #4a8f3c", colours, " ")
+    split("Norakkeun|plain|plain, no test|Norakkeun before", said, "|")
+    split("#1b4f9c #c8601a #4a8f3c #8a93a6", colours, " ")
 }
 $1 == "rising" { for (i = 1; i <= 3; i++) cost[i, $3, $2] = $(3 + i) }
+$1 == "before" { cost[4, $3, $2] = $4 }
 
 function x(size) { return left + (right - left) * log(size) / log(64) }
 function y(count) { return bottom - (bottom - top) * (log(count) / log(10) - lowest) / (highest - lowest) }
@@ -38,7 +38,8 @@ function axes(size, power) {
 function mark(i, at, height) {
     if (i == 1) printf "<circle cx=\"%.1f\" cy=\"%.1f\" r=\"4\"", at, height
     else if (i == 2) printf "<rect x=\"%.1f\" y=\"%.1f\" width=\"7\" height=\"7\"", at - 3.5, height - 3.5
-    else printf "<path d=\"M%.1f %.1fl5 8h-10z\"", at, height - 5
+    else if (i == 3) printf "<path d=\"M%.1f %.1fl5 8h-10z\"", at, height - 5
+    else printf "<path d=\"M%.1f %.1fl5 5l-5 5l-5 -5z\"", at, height - 5
     printf " fill=\"%s\"/>\n", colours[i]
 }
 
@@ -54,11 +55,11 @@ END {
     print "<svg xmlns=\"http://www.w3.org/2000/svg\" viewBox=\"0 0 640 520\" font-family=\"sans-serif\" font-size=\"13\">"
     print "<rect width=\"640\" height=\"520\" fill=\"#fff\"/>"
     axes()
-    for (i = 1; i <= 3; i++) {
+    for (i = 1; i <= 4; i++) {
         curve(i, "ask", "")
         curve(i, "complete", " stroke-dasharray=\"7 4\"")
-        mark(i, left + (i - 1) * 170 + 7, 499)
-        label(left + (i - 1) * 170 + 20, 504, "start", said[i])
+        mark(i, 50 + (i - 1) * 145 + 7, 499)
+        label(50 + (i - 1) * 145 + 20, 504, "start", said[i])
     }
     print "</svg>"
 }
