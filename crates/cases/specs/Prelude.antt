@@ -1,11 +1,10 @@
 -- The names from outside that this crate's definitions and proofs use, passed on by one module.
-pub use Prim.Native.Nat.{_-_, _^_, _≤_}
+pub use Prim.Native.Nat.{_-_, _≤_}
 pub use mathlib.Core.Path.{_∙_, _≡_, ap, refl, sym}
 pub use native.Mathlib.Omega.{arith}
 pub use borrow.Author.Needs.{needs}
-pub use borrow.Author.Tests.{le-ltb, lt-ltb, ltb-true, ne-eqb}
+pub use borrow.Author.Tests.{le-ltb, lt-ltb, ne-eqb}
 pub use lib.ListN.{length}
-pub use lib.Seq.{length-take-le}
 pub use Rattle.laws.specs.ListLaws.{Filled, filled-more}
 pub use Rattle.event.specs.Events.{knownOf}
 pub use Rattle.event.specs.Limits.{jobs}

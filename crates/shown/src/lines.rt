@@ -1,4 +1,5 @@
 // The lines of what calls say: a word, and numbers behind marks.
+ghost use Prim.Native.Nat.{_≤_};
 use arbiter::Late;
 use arbiter::Report;
 use arbiter::Reported;
@@ -103,7 +104,9 @@ pub fn writing(writing: Writing) -> Line {
 }
 
 // 1 for true, 0 for false.
-fn bit(b: bool) -> u64 {
+fn bit(b: bool) -> u64
+    ensures { λ r. ⌜ r ≤ 1 ⌝ }
+{
     if b { 1 } else { 0 }
 }
 
