@@ -1,7 +1,5 @@
 // The public calls on any table, damaged ones too: reads cases one behind the other, makes each one's call and prints
 // the answer and all that the call left behind. A case of no known call, or a cut one, ends it with `cut`.
-mod called;
-
 ghost use Prim.Native.Nat.{_≤_};
 use arbiter::Table;
 use cases::Asked;
@@ -40,7 +38,7 @@ fn make(out: Out, room: &mut Room, case: Case, call: Call, table: Table) -> Out
     let length = case.length as usize;
     let list = &mut space[..length];
     cases::lend(list);
-    let left = called::made(case, call, table, list);
+    let left = called::left_by(case, call, table, list);
     shown::show(out, room, left, list)
 }
 

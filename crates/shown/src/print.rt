@@ -1,9 +1,9 @@
 // Words, lines and lists, printed.
 ghost use Prim.Native.Nat.{_≤_};
-use crate::lines::LETTERS;
-use crate::lines::Line;
-use crate::lines::NUMBERS;
-use crate::lines::Word;
+use called::LETTERS;
+use called::Line;
+use called::NUMBERS;
+use called::Word;
 use stream::Out;
 
 // Where text waits until it is written.

@@ -1,12 +1,14 @@
 // Tables, printed, and all that a call leaves.
 ghost use Prim.Native.Nat.{_≤_};
-use crate::lines::FIVE;
-use crate::lines::Line;
-use crate::lines::Marks;
-use crate::lines::Word;
 use crate::print;
 use crate::print::Room;
 use arbiter::Table;
+use called::FIVE;
+use called::Left;
+use called::Line;
+use called::Marks;
+use called::Part;
+use called::Word;
 use event::JOBS;
 use rows::Row;
 use stream::Out;
@@ -87,21 +89,6 @@ fn table(out: Out, room: &mut Room, table: Table) -> Out
     let all = table.rows;
     let headed = print::line(out, room, head(table));
     rows(headed, room, all)
-}
-
-// What is shown behind the line of what a call says.
-pub enum Part {
-    Nothing,
-    List,
-    Table,
-}
-
-// What a call leaves: the line of what it says, the two parts behind it, and the table.
-pub struct Left {
-    pub line: Line,
-    pub then: Part,
-    pub last: Part,
-    pub table: Table,
 }
 
 // A part of what a call leaves.

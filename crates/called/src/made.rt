@@ -1,4 +1,6 @@
-// Each call, made with what its case hands to it.
+// Each call, made with what its case hands to it, and what it leaves.
+use crate::lines;
+use crate::lines::Line;
 use arbiter::Next;
 use arbiter::Table;
 use cases::Call;
@@ -6,9 +8,21 @@ use cases::Case;
 use event::Kind;
 use event::Tick;
 use record::Writing;
-use shown::Left;
-use shown::Line;
-use shown::Part;
+
+// What is shown behind the line of what a call says.
+pub enum Part {
+    Nothing,
+    List,
+    Table,
+}
+
+// What a call leaves: the line of what it says, the two parts behind it, and the table.
+pub struct Left {
+    pub line: Line,
+    pub then: Part,
+    pub last: Part,
+    pub table: Table,
+}
 
 // What is shown first behind the answer to an event of that kind: the list, if it lists jobs.
 fn listed(kind: Kind) -> Part {
@@ -32,7 +46,7 @@ fn tabled(line: Line, then: Part, table: Table) -> Left {
 fn next(next: Next, then: Part) -> Left {
     let answer = next.answer;
     let table = next.table;
-    tabled(shown::answer(answer), then, table)
+    tabled(lines::answer(answer), then, table)
 }
 
 // What a start with the numbers of the table leaves.
@@ -44,7 +58,7 @@ fn started(tick: Tick, table: Table) -> Left {
 // What the writing of an entry leaves.
 fn written(writing: Writing, table: Table) -> Left {
     Left {
-        line: shown::writing(writing),
+        line: lines::writing(writing),
         then: Part::List,
         last: Part::Nothing,
         table,
@@ -52,16 +66,16 @@ fn written(writing: Writing, table: Table) -> Left {
 }
 
 // What any call leaves, with a list lent to it.
-pub fn made(case: Case, call: Call, table: Table, list: &mut [u8]) -> Left {
+pub fn left_by(case: Case, call: Call, table: Table, list: &mut [u8]) -> Left {
     let tick = case.tick;
     match call {
         Call::Event(kind) => next(table.apply(cases::event_in(case, kind), list), listed(kind)),
         Call::Report => tabled(
-            shown::reported(table.report(case.job)),
+            lines::reported(table.report(case.job)),
             Part::Nothing,
             table,
         ),
-        Call::Overdue => tabled(shown::late(table.overdue(tick, list)), Part::List, table),
+        Call::Overdue => tabled(lines::late(table.overdue(tick, list)), Part::List, table),
         Call::Start => started(tick, table),
         _ => written(
             record::write(cases::entry_in(case, call, table), list),
