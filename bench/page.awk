@@ -85,7 +85,8 @@ function around() {
     printf "%s", "Instructions of one accepted call, T = 8, turns in order of job. Printing is left out, and so is what is around "
     printf "%s", "a call: reading the case, taking it apart and filling the lent list, as measured by a call that is refused before "
     printf "%s", "the table is looked at. Handing the table in and out is part of a call. At 64 live rows the opening has 63. A "
-    print "ratio to fewer than ten instructions is not given."
+    print "ratio to fewer than ten instructions is not given. A figure below 0 says that the refused call has more around it than"
+    print "this one: a start is handed no table, and the refused call is."
 }
 
 function buffers() {
