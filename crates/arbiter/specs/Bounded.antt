@@ -1,5 +1,5 @@
 -- The numbers of a table, as code hands them on.
-use Rattle.request.specs.declared.seen.Bounds.{Bounds}
+use Rattle.soundness.specs.declared.Bounds.{Bounds}
 use Rattle.arbiter.specs.declared.table.Table.{Table}
 
 -- the numbers of a table

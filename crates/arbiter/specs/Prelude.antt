@@ -47,7 +47,6 @@ pub use Rattle.rows.specs.Order.{blocked, distinct, earlier, idle, inWay, live,
 unfoldable pub use Rattle.rows.specs.Order.{ahead}
 pub use Rattle.rows.specs.Propositions.{InTheWay}
 pub use Rattle.rows.specs.declared.row.Row.{Row}
-pub use Rattle.request.specs.declared.seen.Bounds.{Bounds}
 pub use Rattle.request.specs.declared.seen.Seen.{Seen}
 pub use Rattle.decision.specs.declared.answer.Answer.{Answer}
 pub use Rattle.arbiter.specs.declared.table.Late.{Late}
@@ -56,11 +55,11 @@ pub use Rattle.arbiter.specs.declared.table.Next.{Next}
 pub use Rattle.arbiter.specs.declared.table.Reported.{Reported}
 pub use Rattle.arbiter.specs.declared.table.Table.{Table}
 pub use Rattle.decision.specs.declared.deciding.Change.{Change}
-pub use Rattle.request.specs.Beside.{seenBy}
-unfoldable pub use Rattle.request.specs.Beside.{soundBy}
+unfoldable pub use Rattle.soundness.specs.Beside.{soundBy}
+pub use Rattle.soundness.specs.declared.Bounds.{Bounds}
 pub use Rattle.verdict.specs.Refusals.{Call, appliesTo, calling, timeFrom}
 pub use Rattle.rows.specs.Turns.{turn-earlier}
-pub use Rattle.pass.specs.Pass.{Known, Surveyed}
+pub use Rattle.pass.specs.Pass.{Known, Surveyed, seenBy}
 pub use Rattle.pass.specs.declared.known.Survey.{Survey}
 pub use Rattle.sweep.specs.Sweeping.{Acts, Completed, completedRows}
 pub use Rattle.sweep.specs.declared.completion.Swept.{Swept}

@@ -1,5 +1,5 @@
 -- Sound tables, condition by condition in the order of document 01, "What a table holds". What its numbers and single rows
--- meet by themselves stands in `request`'s Conditions.
+-- meet by themselves stands in `soundness`'s Conditions.
 use Prim.Native.Nat.{ℕ}
 use mathlib.Core.Bool.{Bool, cond, not, _&&_}
 use mathlib.Core.List.{List, [], _∷_, _++_}
@@ -10,7 +10,7 @@ use Rattle.laws.specs.Sets.{below}
 use Rattle.rows.specs.Line.{rowOf}
 use Rattle.rows.specs.Order.{blocked, distinct, live, token, waiting}
 use Rattle.rows.specs.declared.row.Row.{Row}
-pub use Rattle.request.specs.Conditions.{askedDeclared, counters, declaresSome, heldDeclared, heldNotAsked, idleConditions, ranges, within}
+pub use Rattle.soundness.specs.Conditions.{askedDeclared, counters, declaresSome, heldDeclared, heldNotAsked, idleConditions, ranges, within}
 use Rattle.arbiter.specs.declared.table.Table.{Table}
 
 -- the row of a job

@@ -25,8 +25,8 @@ pub use Rattle.event.specs.declared.events.Parts.{Parts}
 pub use Rattle.event.specs.declared.refusal.Refusal.{Refusal}
 pub use Rattle.rows.specs.Order.{ahead, idle}
 pub use Rattle.rows.specs.Stand.{Stands}
-unfoldable pub use Rattle.request.specs.Beside.{soundBy}
-pub use Rattle.request.specs.declared.seen.Bounds.{Bounds}
+unfoldable pub use Rattle.soundness.specs.Beside.{soundBy}
+pub use Rattle.soundness.specs.declared.Bounds.{Bounds}
 pub use Rattle.sweep.specs.Sweeping.{Acts, Completed}
 pub use Rattle.sweep.specs.declared.completion.Swept.{Swept}
 pub use Rattle.upkeep.specs.Upkeep.{Appended, Removed}

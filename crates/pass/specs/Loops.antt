@@ -9,14 +9,15 @@ use Rattle.event.specs.Limits.{jobs}
 use Rattle.laws.specs.Lists.{all, any}
 use Rattle.line.specs.Along.{Along}
 use Rattle.line.specs.Placing.{Tells}
-use Rattle.request.specs.declared.seen.Bounds.{Bounds}
 use Rattle.rows.specs.Line.{line, lined, rowOf, under}
 use Rattle.rows.specs.Order.{idle, live}
 use Rattle.rows.specs.Propositions.{InTurn}
 use Rattle.rows.specs.Stand.{front}
 use Rattle.rows.specs.declared.row.Row.{Row}
 use Rattle.rows.specs.declared.stand.Standing.{Standing}
-use Rattle.pass.specs.Pass.{Found, walks, zeroed}
+use Rattle.soundness.specs.Beside.{zeroed}
+use Rattle.soundness.specs.declared.Bounds.{Bounds}
+use Rattle.pass.specs.Pass.{Found, walks}
 
 -- Before row k is looked at: the live jobs below k stand in line, the column has their turns and 0 for every job from k on,
 -- and every idle row below k is zero, so that what remains to be told is told by the rows from k on.

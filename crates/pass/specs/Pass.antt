@@ -1,28 +1,23 @@
 -- What the pass promises, and the walk as a function of what is left of the line.
 use Prim.Native.Nat.{ℕ}
-use mathlib.Core.Bool.{Bool, false, true, not, _&&_}
+use mathlib.Core.Bool.{Bool, false, true, _&&_}
 use mathlib.Core.List.{List, [], _∷_}
 use mathlib.Core.Path.{_≡_}
 use lib.Dec.{leb, ltb}
-use Rattle.laws.specs.Bools.{implies}
 use Rattle.laws.specs.Lists.{all, holds}
 use Rattle.laws.specs.Sets.{below, meets}
 use Rattle.line.specs.LineInCode.{Lines}
-use Rattle.request.specs.Beside.{besideBy, seenBy, soundBy}
-use Rattle.request.specs.Conditions.{idleConditions}
-use Rattle.request.specs.declared.seen.Bounds.{Bounds}
+use Rattle.request.specs.declared.seen.Seen.{Seen}
 use Rattle.rows.specs.Line.{line, rowOf}
-use Rattle.rows.specs.Order.{idle, live}
+use Rattle.rows.specs.Order.{idle, live, token}
 use Rattle.rows.specs.Stand.{Stands, behind, front}
 use Rattle.rows.specs.declared.row.Row.{Row}
 use Rattle.rows.specs.declared.stand.Standing.{Standing}
+use Rattle.soundness.specs.Beside.{besideBy, soundBy, zeroed}
+use Rattle.soundness.specs.declared.Bounds.{Bounds}
 use Rattle.pass.specs.declared.gather.Lined.{Lined}
 use Rattle.pass.specs.declared.known.Survey.{Survey}
 use Rattle.pass.specs.declared.walk.Walked.{Walked}
-
--- a row is zero if it is idle
-abbrev pub zeroed : Row → Bool
-zeroed r = implies (not (live r)) (holds (idleConditions r))
 
 -- whether every idle row is zero is told, and where it is so the line holds the live jobs in order of turn
 pub record Gathered (rows : List Row) (r : Lined) : Type 0 where
@@ -48,6 +43,18 @@ pub record Found (rows : List Row) (j : ℕ) (s : Standing) (r : Row) : Type 0 w
 pub record Walks (b : Bounds) (rows : List Row) (j : ℕ) (w : Walked) : Type 0 where
   pub told : w .sound ≡ walks b rows front 0 (line rows)
   pub found : w .sound ≡ true → Found rows j (w .standing) (w .row)
+
+-- what a call about job j sees of these numbers and rows
+abbrev pub seenBy : Bounds → List Row → ℕ → Seen
+seenBy b rows j =
+    record {
+      sound = soundBy b rows;
+      resources = b .resources;
+      time = b .time;
+      last = b .last;
+      row = rowOf rows j;
+      token = token (b .tokens) rows (rowOf rows j .turn .0);
+    }
 
 -- what is known of a sound table
 pub record Known (b : Bounds) (rows : List Row) (j : ℕ) (v : Survey) : Type 0 where

@@ -45,8 +45,8 @@ pub use Rattle.line.specs.Along.{Along}
 pub use Rattle.line.specs.AlongLaws.{along-stands, along-start, along-step}
 pub use Rattle.line.specs.LineInCode.{Lines}
 pub use Rattle.line.specs.declared.Line.{Line}
-pub use Rattle.request.specs.Beside.{besideBy, soundIn}
-unfoldable pub use Rattle.request.specs.Beside.{soundBy}
-pub use Rattle.request.specs.BesideLaws.{row-beside}
-pub use Rattle.request.specs.Conditions.{counters, idleConditions, ranges}
-pub use Rattle.request.specs.declared.seen.Bounds.{Bounds}
+pub use Rattle.soundness.specs.Beside.{besideBy, soundIn, zeroed}
+unfoldable pub use Rattle.soundness.specs.Beside.{soundBy}
+pub use Rattle.soundness.specs.BesideLaws.{row-beside}
+pub use Rattle.soundness.specs.Conditions.{counters, idleConditions, ranges}
+pub use Rattle.soundness.specs.declared.Bounds.{Bounds}

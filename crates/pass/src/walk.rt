@@ -6,8 +6,6 @@ ghost use Rattle.pass.specs.Pass.{Walks};
 use event::JOBS;
 use laws::sets;
 use line::Line;
-use request::Bounds;
-use request::live_sound;
 use rows::Row;
 use rows::Standing;
 use rows::Turn;
@@ -15,6 +13,8 @@ use rows::behind;
 use rows::earlier;
 use rows::front;
 use rows::idle;
+use soundness::Bounds;
+use soundness::live_sound;
 
 // Whether the live rows are sound; if so, the row of the job that was looked for and what stands before it. The row of a
 // job that has no request is idle.

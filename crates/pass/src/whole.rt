@@ -7,13 +7,13 @@ use crate::known::Survey;
 use crate::walk::walk;
 use event::JOBS;
 use line::Line;
-use request::Bounds;
 use request::Seen;
-use request::numbers_sound;
 use rows::Row;
 use rows::front;
 use rows::idle;
 use rows::token;
+use soundness::Bounds;
+use soundness::numbers_sound;
 
 // What is seen of a table that is not sound.
 fn unsound(b: Bounds, line: Line) -> Survey

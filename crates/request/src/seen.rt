@@ -2,15 +2,6 @@
 use rows::Row;
 use rows::Turn;
 
-// The numbers of a table.
-pub struct Bounds {
-    pub tokens: u32,
-    pub resources: u32,
-    pub limit: u32,
-    pub time: u64,
-    pub last: Turn,
-}
-
 // What a call about a job sees of a table: whether it is sound, the numbers that refusals go by, the job's row, and
 // whether its turn holds a token.
 pub struct Seen {

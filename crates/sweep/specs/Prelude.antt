@@ -46,9 +46,9 @@ pub use Rattle.rows.specs.declared.stand.Standing.{Standing}
 pub use Rattle.line.specs.AlongLaws.{along-end, along-stands, along-start, along-step}
 pub use Rattle.line.specs.LineInCode.{Lines, Listed}
 pub use Rattle.line.specs.declared.Line.{Line}
-pub use Rattle.request.specs.Beside.{besideBy, soundIn}
-unfoldable pub use Rattle.request.specs.Beside.{soundBy}
-pub use Rattle.request.specs.BesideLaws.{row-beside}
 pub use Rattle.request.specs.Going.{goesOn, lateBy, wakesBy}
-pub use Rattle.request.specs.Conditions.{counters, idleConditions, ranges}
-pub use Rattle.request.specs.declared.seen.Bounds.{Bounds}
+pub use Rattle.soundness.specs.Beside.{besideBy, soundIn}
+unfoldable pub use Rattle.soundness.specs.Beside.{soundBy}
+pub use Rattle.soundness.specs.BesideLaws.{row-beside}
+pub use Rattle.soundness.specs.Conditions.{counters, idleConditions, ranges}
+pub use Rattle.soundness.specs.declared.Bounds.{Bounds}

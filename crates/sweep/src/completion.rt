@@ -5,17 +5,17 @@ ghost use mathlib.Core.Path.{_≡_};
 ghost use lib.ListN.{length};
 ghost use Rattle.event.specs.Limits.{jobs};
 ghost use Rattle.line.specs.LineInCode.{Lines};
-ghost use Rattle.request.specs.Beside.{soundBy};
+ghost use Rattle.soundness.specs.Beside.{soundBy};
 ghost use Rattle.sweep.specs.Sweeping.{Acts, Completed};
 use event::JOBS;
 use line::Line;
-use request::Bounds;
 use request::goes_on;
 use request::wakes;
 use rows::Row;
 use rows::behind;
 use rows::front;
 use rows::idle;
+use soundness::Bounds;
 
 // The rows after a completion, and how many jobs it woke.
 pub struct Swept {

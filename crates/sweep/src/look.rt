@@ -5,17 +5,17 @@ ghost use mathlib.Core.Path.{_≡_};
 ghost use lib.ListN.{length};
 ghost use Rattle.event.specs.Limits.{jobs};
 ghost use Rattle.line.specs.LineInCode.{Lines, Listed};
-ghost use Rattle.request.specs.Beside.{soundBy};
+ghost use Rattle.soundness.specs.Beside.{soundBy};
 ghost use Rattle.rows.specs.Order.{inWay};
 ghost use Rattle.sweep.specs.Late.{lateIn};
 use event::JOBS;
 use laws::sets;
 use line::Line;
-use request::Bounds;
 use request::is_late;
 use rows::Row;
 use rows::Turn;
 use rows::earlier;
+use soundness::Bounds;
 
 // How many live rows of lower turn declare some member of `s`.
 pub fn in_way(rows: [Row; JOBS], line: Line, turn: Turn, s: u64) -> u32

@@ -3,9 +3,8 @@ ghost use mathlib.Core.Bool.{_&&_};
 ghost use mathlib.Core.Path.{_≡_};
 ghost use Rattle.laws.specs.Lists.{holds};
 ghost use Rattle.laws.specs.Sets.{meets};
-ghost use Rattle.request.specs.Beside.{besideBy, holderBy};
-ghost use Rattle.request.specs.Conditions.{counters, idleConditions, ranges};
-use crate::seen::Bounds;
+ghost use Rattle.soundness.specs.Beside.{besideBy, holderBy};
+ghost use Rattle.soundness.specs.Conditions.{counters, idleConditions, ranges};
 use event::HIGHEST;
 use event::MOST;
 use laws::sets::inside;
@@ -16,6 +15,15 @@ use rows::Standing;
 use rows::Turn;
 use rows::earlier;
 use rows::token;
+
+// The numbers of a table.
+pub struct Bounds {
+    pub tokens: u32,
+    pub resources: u32,
+    pub limit: u32,
+    pub time: u64,
+    pub last: Turn,
+}
 
 // Whether T, R and the limit are in range.
 pub fn in_range(tokens: u32, resources: u32, limit: u32) -> bool

@@ -1,8 +1,8 @@
 -- The tests are the conditions, joined in their order.
-use Rattle.request.specs.Prelude.{Bool, [], _&&_, _∙_, _∷_, _≡_, all, and-assoc, and-true, ap, ap₂, highest, holds, leb, needs, not, not-ltb}
-use Rattle.request.specs.Conditions.{ranges}
-use Rattle.request.proofs.sound.numbers_sound.Statement.{statement}
-use Rattle.request.proofs.sound.numbers_sound.Tie as tie
+use Rattle.soundness.specs.Prelude.{Bool, [], _&&_, _∙_, _∷_, _≡_, all, and-assoc, and-true, ap, ap₂, highest, holds, leb, needs, not, not-ltb}
+use Rattle.soundness.specs.Conditions.{ranges}
+use Rattle.soundness.proofs.numbers_sound.Statement.{statement}
+use Rattle.soundness.proofs.numbers_sound.Tie as tie
 
 -- three tests, the last two as conditions
 joined : (a b c : Bool) → ((a && b) && c) ≡ (a && holds (b ∷ c ∷ []))

@@ -8,12 +8,10 @@ use lib.Dec.{eqb, leb, ltb}
 use Rattle.laws.specs.Bools.{implies}
 use Rattle.laws.specs.Lists.{all, holds}
 use Rattle.laws.specs.Sets.{below, inside, meets, union}
-use Rattle.rows.specs.Line.{rowOf}
-use Rattle.rows.specs.Order.{ahead, blocked, distinct, live, token}
+use Rattle.rows.specs.Order.{ahead, blocked, distinct, live}
 use Rattle.rows.specs.declared.row.Row.{Row}
-use Rattle.request.specs.Conditions.{askedDeclared, counters, declaresSome, heldDeclared, heldNotAsked, idleConditions, ranges}
-use Rattle.request.specs.declared.seen.Bounds.{Bounds}
-use Rattle.request.specs.declared.seen.Seen.{Seen}
+use Rattle.soundness.specs.Conditions.{askedDeclared, counters, declaresSome, heldDeclared, heldNotAsked, idleConditions, ranges}
+use Rattle.soundness.specs.declared.Bounds.{Bounds}
 
 -- what a live row meets by itself
 abbrev pub ownBy : ℕ → ℕ → Row → List Bool
@@ -41,6 +39,10 @@ placeBy T time r before forbidden =
 abbrev pub rowBy : ℕ → ℕ → ℕ → ℕ → Row → ℕ → (ℕ → Bool) → List Bool
 rowBy T R time last r before forbidden =
     cond (live r) (ownBy R last r ++ placeBy T time r before forbidden) (idleConditions r)
+
+-- a row is zero if it is idle
+abbrev pub zeroed : Row → Bool
+zeroed r = implies (not (live r)) (holds (idleConditions r))
 
 -- the conditions on a live row, but for its turn, which is at most the last one given, and its resources, which are below R
 abbrev pub besideBy : ℕ → ℕ → Row → ℕ → (ℕ → Bool) → List Bool
@@ -75,15 +77,3 @@ unfoldable pub soundBy : Bounds → List Row → Bool
 soundBy b rows =
     holds (ranges (b .tokens) (b .resources) (b .limit)) && holds (counters (b .time) (b .last .0)) && distinct rows
     && all (soundIn b rows) rows
-
--- what a call about job j sees of these numbers and rows
-abbrev pub seenBy : Bounds → List Row → ℕ → Seen
-seenBy b rows j =
-    record {
-      sound = soundBy b rows;
-      resources = b .resources;
-      time = b .time;
-      last = b .last;
-      row = rowOf rows j;
-      token = token (b .tokens) rows (rowOf rows j .turn .0);
-    }

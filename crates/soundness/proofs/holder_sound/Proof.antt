@@ -1,7 +1,7 @@
 -- The tests are those of the definition.
-use Rattle.request.specs.Prelude.{eq-eqb, ne-eqb, needs}
-use Rattle.request.proofs.sound.holder_sound.Statement.{statement}
-use Rattle.request.proofs.sound.holder_sound.Tie as tie
+use Rattle.soundness.specs.Prelude.{eq-eqb, ne-eqb, needs}
+use Rattle.soundness.proofs.holder_sound.Statement.{statement}
+use Rattle.soundness.proofs.holder_sound.Tie as tie
 
 returns : tie.Need-returns
 returns c =

@@ -1,7 +1,7 @@
 -- Numbers have no bit among them exactly if each is zero.
-use Rattle.request.specs.Prelude.{[], _∷_, _≡_, all, and-assoc, and-true, bitOr, eqb, holds, union, union-none, ℕ}
-use Rattle.request.proofs.sound.idle_sound.Statement.{statement}
-use Rattle.request.proofs.sound.idle_sound.Tie as tie
+use Rattle.soundness.specs.Prelude.{[], _∷_, _≡_, all, and-assoc, and-true, bitOr, eqb, holds, union, union-none, ℕ}
+use Rattle.soundness.proofs.idle_sound.Statement.{statement}
+use Rattle.soundness.proofs.idle_sound.Tie as tie
 
 -- none of four numbers has a bit set
 none-set : (a b c d : ℕ) → eqb (bitOr (bitOr (bitOr a b) c) d) 0 ≡ holds (eqb a 0 ∷ eqb b 0 ∷ eqb c 0 ∷ eqb d 0 ∷ [])

@@ -1,8 +1,8 @@
 -- The fast test is the list of conditions.
-use Rattle.request.specs.Prelude.{_&&_, _∙_, all, ap, arith, eqb, leb, needs, sym, ℕ}
-use Rattle.request.specs.BesideLaws.{holder-beside, tokenless-beside}
-use Rattle.request.proofs.sound.live_sound.Statement.{statement}
-use Rattle.request.proofs.sound.live_sound.Tie as tie
+use Rattle.soundness.specs.Prelude.{_&&_, _∙_, all, ap, arith, eqb, leb, needs, sym, ℕ}
+use Rattle.soundness.specs.BesideLaws.{holder-beside, tokenless-beside}
+use Rattle.soundness.proofs.live_sound.Statement.{statement}
+use Rattle.soundness.proofs.live_sound.Tie as tie
 
 returns : tie.Need-returns
 unfolding all

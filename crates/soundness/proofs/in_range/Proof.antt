@@ -1,7 +1,7 @@
 -- The tests are the conditions, joined in their order; a limit of 32 bits is at most 2^32-1.
-use Rattle.request.specs.Prelude.{_-_, _^_, _≤_, all, and-assoc, and-true, arith, le-leb}
-use Rattle.request.proofs.sound.in_range.Statement.{statement}
-use Rattle.request.proofs.sound.in_range.Tie as tie
+use Rattle.soundness.specs.Prelude.{_-_, _^_, _≤_, all, and-assoc, and-true, arith, le-leb}
+use Rattle.soundness.proofs.in_range.Statement.{statement}
+use Rattle.soundness.proofs.in_range.Tie as tie
 
 returns : tie.Need-returns
 unfolding all
