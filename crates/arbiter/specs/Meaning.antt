@@ -14,7 +14,7 @@ use Rattle.rows.specs.Order.{ahead, blocked, idle, inWay, token, waiting}
 use Rattle.rows.specs.Sweep.{settled, woken}
 use Rattle.rows.specs.declared.row.Row.{Row}
 use Rattle.request.specs.Change.{asking, opening, releasing}
-use Rattle.sweep.specs.Late.{lateIn}
+use Rattle.questions.specs.Late.{lateIn}
 use Rattle.arbiter.specs.Answers.{Said, saysDone, saysGranted, saysToken, saysWait, saysWoke}
 use Rattle.arbiter.specs.Sound.{rowIn}
 use Rattle.arbiter.specs.Refusals.{cases, overdueCases, reportCases, startCases}

@@ -66,4 +66,4 @@ pub use Rattle.sweep.specs.declared.completion.Swept.{Swept}
 pub use lib.Arith.{le-zero}
 pub use Rattle.rows.specs.Known.{waitingBy}
 pub use Rattle.arbiter.specs.declared.table.Report.{Report}
-pub use Rattle.sweep.specs.Late.{lateIn}
+pub use Rattle.questions.specs.Late.{lateIn}

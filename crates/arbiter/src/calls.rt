@@ -28,6 +28,8 @@ use event::parts_of;
 use laws::sets;
 use pass::Survey;
 use pass::survey;
+use questions::in_way;
+use questions::list_late;
 use rows::Row;
 use rows::Turn;
 use rows::idle;
@@ -36,8 +38,6 @@ use rows::waiting;
 use soundness::Bounds;
 use soundness::in_range;
 use sweep::completed;
-use sweep::in_way;
-use sweep::list_late;
 use verdict::clock_verdict;
 use verdict::complete_verdict;
 

@@ -54,5 +54,5 @@ pub use Rattle.arbiter.specs.declared.table.Report.{Report}
 pub use Rattle.arbiter.specs.declared.table.Table.{Table}
 pub use Rattle.record.specs.Format.{encode}
 pub use Rattle.request.specs.Change.{releasing}
-pub use Rattle.sweep.specs.Late.{lateJob}
-unfoldable pub use Rattle.sweep.specs.Late.{lateIn}
+pub use Rattle.questions.specs.Late.{lateJob}
+unfoldable pub use Rattle.questions.specs.Late.{lateIn}

@@ -1,7 +1,7 @@
 -- Who goes on after a change, and who is late, as code finds it out from a row and its standing.
 use Prim.Native.Nat.{ℕ, _-_}
 use mathlib.Core.Bool.{Bool, not, _&&_, _||_}
-use lib.Dec.{eqb, leb, ltb}
+use lib.Dec.{eqb, ltb}
 use Rattle.laws.specs.Sets.{meets, union}
 use Rattle.rows.specs.declared.row.Row.{Row}
 use Rattle.rows.specs.declared.stand.Standing.{Standing}
@@ -16,6 +16,6 @@ goesOn r =
 abbrev pub wakesBy : ℕ → Standing → Row → Bool
 wakesBy T s r = (ltb 0 (r .asked) || eqb (T - s .ahead) 1) && not (meets (s .claims) (r .asked))
 
--- a live row, with a token or without one, waits, and its wait up to this time is the limit or more
-abbrev pub lateBy : Bool → ℕ → ℕ → Row → Bool
-lateBy token limit time r = (not token || ltb 0 (r .asked)) && leb limit (time - r .since)
+-- a live row, with a token or without one, waits, and since before this time
+abbrev pub lateSince : Bool → ℕ → Row → Bool
+lateSince token from r = ltb (r .since) from && (not token || ltb 0 (r .asked))

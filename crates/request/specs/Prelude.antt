@@ -4,4 +4,5 @@ pub use mathlib.Core.Bool.{Bool, _&&_, _||_, and-false, and-true, false, not, tr
 pub use mathlib.Core.Path.{_∙_, _≡_, sym}
 pub use native.Mathlib.Omega.{arith}
 pub use borrow.Author.Needs.{needs}
+pub use borrow.Author.Tests.{le-ltb, lt-ltb}
 pub use lib.Dec.{eqb, ltb}

@@ -1,8 +1,8 @@
 // What an accepted event makes of a row, and which rows a change lets go on.
-ghost use Prim.Native.Nat.{_-_, _<_, _^_};
+ghost use Prim.Native.Nat.{_+_, _-_, _<_, _^_};
 ghost use mathlib.Core.Path.{_≡_};
 ghost use Rattle.request.specs.Change.{asking, opening, releasing};
-ghost use Rattle.request.specs.Going.{goesOn, lateBy, wakesBy};
+ghost use Rattle.request.specs.Going.{goesOn, lateSince, wakesBy};
 use laws::sets;
 use rows::Row;
 use rows::Standing;
@@ -73,19 +73,24 @@ pub fn goes_on(r: Row) -> Row
     row
 }
 
-// How long it is from `since` to `time`.
-fn waited(time: u64, since: u64) -> u64
-    ensures { λ r. ⌜ r ≡ time - since ⌝ }
+// From when on a wait up to `time` is shorter than the limit.
+pub fn in_time_from(time: u64, limit: u32) -> u64
+    requires { ⌜ 0 < limit ⌝ }
+    ensures { λ r. ⌜ r ≡ time + 1 - limit ⌝ }
 {
-    if time < since {
+    if time < limit as u64 {
         return 0;
     }
-    time - since
+    time - limit as u64 + 1
 }
 
-// Whether a live row, with a token or without one, waits and has waited for the limit or longer.
-pub fn is_late(r: Row, token: bool, limit: u32, time: u64) -> bool
-    ensures { λ b. ⌜ b ≡ lateBy token limit time r ⌝ }
+// Whether a live row, with a token or without one, waits, and since before a wait is in time. The times come first, since
+// most rows that wait have no token.
+pub fn is_late(r: Row, token: bool, from: u64) -> bool
+    ensures { λ b. ⌜ b ≡ lateSince token from r ⌝ }
 {
-    (!token | (0 < r.asked)) & (limit as u64 <= waited(time, r.since))
+    if from <= r.since {
+        return false;
+    }
+    !token | (0 < r.asked)
 }

@@ -5,6 +5,7 @@ mod seen;
 
 pub use change::asked_row;
 pub use change::goes_on;
+pub use change::in_time_from;
 pub use change::is_late;
 pub use change::opened_row;
 pub use change::released_row;

@@ -1,4 +1,4 @@
--- Laws that only the proofs of functions use.
-mod Jobs
+-- Laws that only the proofs of functions use, here and where questions are asked along the line.
+pub mod Jobs
 mod Midway
-mod Writing
+pub mod Writing

@@ -1,8 +1,6 @@
--- What is said of completions and of questions along the line.
+-- What is said of completions.
 pub mod Determined
-pub mod Late
 pub mod Leaving
-pub mod LookLaws
 pub mod Prelude
 pub mod Steady
 pub mod SteadyLaws

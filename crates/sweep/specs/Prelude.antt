@@ -1,9 +1,9 @@
 -- The names from outside that this crate's definitions and proofs use, passed on by one module.
-pub use Prim.Native.Nat.{_+_, _-_, _<_, _≤_, suc, zero, ℕ}
-pub use mathlib.Core.Bool.{Bool, _&&_, _||_, and-assoc, and-false, and-true, cond, false, not, or-comm, true}
+pub use Prim.Native.Nat.{_+_, _-_, _<_, _^_, _≤_, suc, zero, ℕ}
+pub use mathlib.Core.Bool.{Bool, _&&_, _||_, and-false, and-true, cond, false, not, or-comm, true}
 pub use mathlib.Core.List.{List, [], _++_, _∷_, append-nil}
 pub use mathlib.Core.Logic.{_≢_, _⊎_, inl, inr, ⊎-elim}
-pub use mathlib.Core.Path.{_∙_, _≡_, ap, fun-ext, refl, subst, sym}
+pub use mathlib.Core.Path.{_∙_, _≡_, ap, refl, subst, sym}
 pub use native.Mathlib.Decide.{ℕ-discrete}
 pub use native.Mathlib.Nat.{add-zero, le-antisymm, le-of-suc-le-suc, not-suc-le-zero}
 pub use native.Mathlib.Numerals.{add-one}
@@ -19,13 +19,12 @@ pub use Rattle.laws.specs.Bools.{bit}
 pub use Rattle.laws.specs.Counts.{all-each}
 unfoldable pub use Rattle.laws.specs.Front.{over}
 pub use Rattle.laws.specs.HoldLaws.{nth}
-pub use Rattle.laws.specs.ListLaws.{Passed, passed-all, passed-le, passed-more, passed-none}
-pub use Rattle.laws.specs.Lists.{count, holds}
+pub use Rattle.laws.specs.Lists.{holds}
 unfoldable pub use Rattle.laws.specs.Lists.{all}
 pub use Rattle.laws.specs.SetLaws.{union-empty}
-pub use Rattle.laws.specs.Sets.{below, meets, union}
+pub use Rattle.laws.specs.Sets.{below, union}
 pub use Rattle.event.specs.Limits.{jobs, most}
-pub use Rattle.rows.specs.InLine.{count-line, length-lined-le, line-below, lined-below, lined-in-turn}
+pub use Rattle.rows.specs.InLine.{length-lined-le, line-below, lined-below, lined-in-turn}
 pub use Rattle.rows.specs.InWay.{ahead-mono, in-way-empty}
 pub use Rattle.rows.specs.Line.{line, rowOf}
 unfoldable pub use Rattle.rows.specs.Line.{keep, lined, place, under}
@@ -46,7 +45,7 @@ pub use Rattle.rows.specs.declared.stand.Standing.{Standing}
 pub use Rattle.line.specs.AlongLaws.{along-end, along-stands, along-start, along-step}
 pub use Rattle.line.specs.LineInCode.{Lines, Listed}
 pub use Rattle.line.specs.declared.Line.{Line}
-pub use Rattle.request.specs.Going.{goesOn, lateBy, wakesBy}
+pub use Rattle.request.specs.Going.{goesOn, wakesBy}
 pub use Rattle.soundness.specs.Beside.{besideBy, soundIn}
 unfoldable pub use Rattle.soundness.specs.Beside.{soundBy}
 pub use Rattle.soundness.specs.BesideLaws.{row-beside}

@@ -1,5 +1,5 @@
 -- The rows of a sound table are steady, and its tokens are at most as many as jobs.
-use Rattle.sweep.specs.Prelude.{Bool, Bounds, Distinct, List, Row, _&&_, _<_, _||_, _∙_, _≡_, _≤_, ahead, all, all-each, and-left, and-right, ap, below, besideBy, blocked, counters, denied, distinct, distinct-rows, eqb, eqb-true, getD, holds, idle, idleConditions, implied, le-ltb, le-zero, leb, leb-true, lt-ltb, ltb, ltb-false, most, not, nth, ranges, refl, row-beside, rowOf, soundBy, soundIn, sym, true, ℕ}
+use Rattle.sweep.specs.Prelude.{Bool, Bounds, Distinct, List, Row, _&&_, _-_, _<_, _^_, _||_, _∙_, _≡_, _≤_, ahead, all, all-each, and-left, and-right, ap, below, besideBy, blocked, counters, denied, distinct, distinct-rows, eqb, eqb-true, getD, holds, idle, idleConditions, implied, le-ltb, le-zero, leb, leb-true, lt-ltb, ltb, ltb-false, most, not, nth, ranges, refl, row-beside, rowOf, soundBy, soundIn, sym, true, ℕ}
 use Rattle.sweep.specs.Steady.{Steady}
 
 module _ (b : Bounds) (rows : List Row) (sound : soundBy b rows ≡ true) where
@@ -13,14 +13,21 @@ module _ (b : Bounds) (rows : List Row) (sound : soundBy b rows ≡ true) where
   pub sound-distinct : Distinct rows
   sound-distinct = distinct-rows rows (and-right numbersSound (distinct rows) front-sound)
 
-  -- the tokens are in range
+  -- its numbers are in range
+  in-range : holds (ranges (b .tokens) (b .resources) (b .limit)) ≡ true
+  in-range =
+      and-left (holds (ranges (b .tokens) (b .resources) (b .limit))) (holds (counters (b .time) (b .last .0)))
+      (and-left numbersSound (distinct rows) front-sound)
+
   pub sound-tokens : b .tokens ≤ most
   sound-tokens =
-      let T = b .tokens in
-      let tests = ranges T (b .resources) (b .limit) in
-      let all-numbers = and-left numbersSound (distinct rows) front-sound in
-      let all-ranges = and-left (holds tests) (holds (counters (b .time) (b .last .0))) all-numbers in
-      leb-true T most (and-right (leb 1 T) (leb T most) (nth tests all-ranges 0))
+      leb-true (b .tokens) most
+      (and-right (leb 1 (b .tokens)) (leb (b .tokens) most) (nth (ranges (b .tokens) (b .resources) (b .limit)) in-range 0))
+
+  pub sound-limit : 0 < b .limit
+  sound-limit =
+      leb-true 1 (b .limit)
+      (and-left (leb 1 (b .limit)) (leb (b .limit) (2 ^ 32 - 1)) (nth (ranges (b .tokens) (b .resources) (b .limit)) in-range 2))
 
   -- each row is sound
   row-sound : (j : ℕ) → soundIn b rows (rowOf rows j) ≡ true

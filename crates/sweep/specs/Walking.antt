@@ -1,10 +1,9 @@
 -- Going along a line whose turns are distinct.
 use Prim.Native.Nat.{ℕ, _<_}
-use mathlib.Core.Bool.{Bool, not, _&&_}
+use mathlib.Core.Bool.{Bool, not}
 use mathlib.Core.List.{List, [], _∷_}
-use lib.Dec.{eqb, ltb}
+use lib.Dec.{eqb}
 use lib.ListN.{set}
-use Rattle.laws.specs.Sets.{meets}
 use Rattle.line.specs.Along.{Along}
 use Rattle.rows.specs.Line.{rowOf}
 use Rattle.rows.specs.Order.{idle}
@@ -31,7 +30,3 @@ besides k j = not (eqb k j)
 -- the rows with job k's row idle
 abbrev pub vacated : List Row → ℕ → List Row
 vacated rows k = set rows k idle
-
--- job j is of lower turn than n, and declares some member of s
-abbrev pub claimsAhead : List Row → ℕ → ℕ → ℕ → Bool
-claimsAhead rows n s j = ltb (rowOf rows j .turn .0) n && meets (rowOf rows j .declared) s

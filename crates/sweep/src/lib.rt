@@ -1,8 +1,5 @@
-// Along the line: what a completion wakes, who is overdue, and who is in the way.
+// Along the line: what a completion makes of the rows, and whom it wakes.
 mod completion;
-mod look;
 
 pub use completion::Swept;
 pub use completion::completed;
-pub use look::in_way;
-pub use look::list_late;

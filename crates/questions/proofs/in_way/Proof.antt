@@ -1,10 +1,11 @@
 -- The loop keeps: of the jobs passed n are of lower turn and declare some member.
-use Rattle.sweep.specs.Prelude.{_&&_, _-_, _<_, _∙_, _≡_, _≤_, arith, getD, jobs, length, line, needs, sym, ⊎-elim}
-use Rattle.sweep.specs.Walking.{claimsAhead}
-use Rattle.sweep.specs.LookLaws.{in-way-line}
-use Rattle.sweep.proofs.Jobs.{Counting, counting-end, counting-fits, counting-none, counting-one, counting-start, job-below, job-here, line-fits}
-use Rattle.sweep.proofs.look.in_way.Statement.{statement}
-use Rattle.sweep.proofs.look.in_way.Tie as tie
+use Rattle.questions.specs.Prelude.{_&&_, _-_, _<_, _∙_, _≡_, _≤_, arith, getD, jobs, length, line, needs, sym, ⊎-elim}
+use Rattle.questions.specs.InCode.{claimsAhead}
+use Rattle.questions.specs.QuestionLaws.{in-way-line}
+use Rattle.questions.proofs.Counting.{Counting, counting-end, counting-fits, counting-none, counting-one, counting-start}
+use Rattle.sweep.proofs.Jobs.{job-below, job-here, line-fits}
+use Rattle.questions.proofs.in_way.Statement.{statement}
+use Rattle.questions.proofs.in_way.Tie as tie
 
 abbrev Inv-loop : tie.InvT-loop
 Inv-loop turn s rows jobs len n₀ p₀ n p = Counting (claimsAhead rows (turn .0) s) (line rows) n p

@@ -1,4 +1,4 @@
-// Questions that go along the line.
+// Questions that are answered along the line: who is in the way, and who is overdue.
 ghost use Prim.Native.Nat.{_≤_};
 ghost use mathlib.Core.Bool.{true};
 ghost use mathlib.Core.Path.{_≡_};
@@ -7,10 +7,11 @@ ghost use Rattle.event.specs.Limits.{jobs};
 ghost use Rattle.line.specs.LineInCode.{Lines, Listed};
 ghost use Rattle.soundness.specs.Beside.{soundBy};
 ghost use Rattle.rows.specs.Order.{inWay};
-ghost use Rattle.sweep.specs.Late.{lateIn};
+ghost use Rattle.questions.specs.Late.{lateIn};
 use event::JOBS;
 use laws::sets;
 use line::Line;
+use request::in_time_from;
 use request::is_late;
 use rows::Row;
 use rows::Turn;
@@ -48,12 +49,13 @@ pub fn list_late(rows: [Row; JOBS], line: Line, b: Bounds, time: u64, late: &mut
     let jobs = line.jobs;
     let len = line.len;
     let tokens = b.tokens as usize;
+    let from = in_time_from(time, b.limit);
     let mut n: usize = 0;
     let mut p = 0;
     while p < len {
         let job = jobs[p];
         let r = rows[job as usize];
-        if is_late(r, p < tokens, b.limit, time) {
+        if is_late(r, p < tokens, from) {
             late[n] = job;
             n += 1;
         }
