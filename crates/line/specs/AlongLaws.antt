@@ -1,5 +1,5 @@
 -- Laws along the line: at its beginning, at each job, at its end.
-use Rattle.line.specs.Prelude.{Bool, Each, InTurn, List, Row, Standing, Stands, [], _&&_, _+_, _<_, _||_, _∙_, _∷_, _≡_, add-assoc, add-zero, ahead, and-assoc, any, any-count, ap, arith, behind, bit, claims, count, count-line, each-cons, each-head, each-tail, earlier, false, front, fun-ext, getD, inWay, inside, line, live, ltb, meet, meets, meets-comm, meets-union, not-earlier, or-assoc, or-false, refl, rowOf, sym, true, turn-earlier, union, zero-add, ℕ}
+use Rattle.line.specs.Prelude.{Bool, Each, InTurn, List, Row, Standing, Stands, [], _&&_, _+_, _<_, _||_, _∙_, _∷_, _≡_, add-assoc, add-zero, ahead, and-assoc, any, any-count, ap, arith, behind, bit, claims, count, count-line, count-never, each-cons, each-head, each-tail, earlier, false, front, fun-ext, getD, in-way-ahead, inWay, inside, le-ltb, line, live, ltb, meet, meets, meets-comm, meets-empty, meets-union, not-earlier, or-assoc, or-false, refl, rowOf, sym, true, turn-earlier, union, zero-add, ℕ}
 use Rattle.line.specs.Along.{Along}
 
 -- ---- Tests that no job of a list passes
@@ -41,6 +41,18 @@ along-start rows =
         ap (λ (h : ℕ → Bool). count h (line rows)) (fun-ext (λ j. and-assoc (live (rowOf rows j)) (ltb (rowOf rows j .turn .0) n) (meets (rowOf rows j .declared) x)))
         ∙ count-alive (λ r. ltb (r .turn .0) n && meets (r .declared) x) rows
         ∙ ap (λ (h : Row → Bool). count h rows) (fun-ext (λ r. sym (and-assoc (live r) (ltb (r .turn .0) n) (meets (r .declared) x))))
+
+-- nothing stands before turn 0
+pub nobody-before : (rows : List Row) → Stands rows 0 front
+unfolding ahead
+nobody-before rows =
+    let none : ahead rows 0 ≡ 0 =
+    ap (λ (f : Row → Bool). count f rows) (fun-ext (λ r. not-earlier 0 r (omega arith))) ∙ count-never rows in
+    record {
+      before = sym none;
+      forbids = λ x.
+          meets-comm 0 x ∙ meets-empty x ∙ sym (le-ltb 0 (inWay rows 0 x) (omega (arith, none, in-way-ahead rows 0 x)));
+    }
 
 -- ---- At each job
 

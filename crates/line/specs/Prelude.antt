@@ -12,14 +12,16 @@ pub use lib.Dec.{ltb}
 pub use lib.ListN.{drop, getD, length, length-set, set, take}
 pub use lib.Seq.{getD-take, length-take-le, take-set-lt}
 pub use Rattle.laws.specs.Bools.{bit}
+pub use Rattle.laws.specs.Counts.{count-never}
 pub use Rattle.laws.specs.Determined.{determined}
 pub use Rattle.laws.specs.ListLaws.{any-count}
 unfoldable pub use Rattle.laws.specs.Lists.{any, count}
-pub use Rattle.laws.specs.SetLaws.{meets-comm, meets-union}
+pub use Rattle.laws.specs.SetLaws.{meets-comm, meets-empty, meets-union}
 pub use Rattle.laws.specs.Sets.{inside}
 unfoldable pub use Rattle.laws.specs.Sets.{meet, meets, union}
 pub use Rattle.event.specs.Limits.{jobs}
 pub use Rattle.rows.specs.InLine.{count-line}
+pub use Rattle.rows.specs.InWay.{in-way-ahead}
 pub use Rattle.rows.specs.Line.{rowOf}
 unfoldable pub use Rattle.rows.specs.Line.{place}
 pub use Rattle.rows.specs.Line.{line}

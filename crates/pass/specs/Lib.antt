@@ -1,9 +1,6 @@
 -- What is said of the pass.
-pub mod GatherLaws
-pub mod Loops
 pub mod Pass
 pub mod PassLaws
 pub mod Prelude
 pub mod RiseLaws
 pub mod SurveyLaws
-pub mod WalkLaws

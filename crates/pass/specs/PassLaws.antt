@@ -1,6 +1,5 @@
 -- The walk along the whole line tests what is asked of all live rows.
-use Rattle.pass.specs.Prelude.{Along, Bool, Bounds, InTurn, List, Row, Standing, [], _&&_, _<_, _||_, _∙_, _∷_, _≡_, ahead, all, all-each, along-stands, along-start, along-step, and-eq-true-iff, and-false, and-left, and-right, and-true, ap, arith, behind, below, below-reads, besideBy, blocked, distinct, each-all, false, false≢true, front, holds, idle, idleConditions, implies, le-leb, leb, leb-true, length, line, lined-in-turn, live, lt-ltb, ltb, ltb-true, meets, member, member-empty, member-union, not, or-true, refl, row-beside, rowOf, same, soundIn, sym, true, under, union, zeroed, ℕ}
-use Rattle.pass.specs.Pass.{walks}
+use Rattle.pass.specs.Prelude.{Along, Bool, Bounds, InTurn, List, Row, Standing, [], _&&_, _<_, _||_, _∙_, _∷_, _≡_, ahead, all, all-each, along-stands, along-start, along-step, and-eq-true-iff, and-false, and-left, and-right, and-true, ap, arith, behind, below, below-reads, besideBy, blocked, distinct, each-all, false, false≢true, front, holds, idle, idleConditions, implies, le-leb, leb, leb-true, length, line, lined-in-turn, live, lt-ltb, ltb, ltb-true, meets, member, member-empty, member-union, not, or-true, refl, row-beside, rowOf, same, soundIn, sym, true, under, union, walks, zeroed, ℕ}
 use Rattle.pass.specs.RiseLaws.{all-line, rising, rising-distinct}
 
 -- all of a union is below R where all of each of the two sets is

@@ -1,44 +1,34 @@
 -- The names from outside that this crate's definitions and proofs use, passed on by one module.
-pub use Prim.Native.Nat.{_+_, _-_, _<_, _≤_, suc, suc-le-suc, zero, ℕ}
-pub use mathlib.Core.Bool.{Bool, _&&_, _||_, and-eq-true-iff, and-false, and-true, false, false≢true, not, or-true, true, true≢false}
+pub use Prim.Native.Nat.{_+_, _<_, _≤_, suc, suc-le-suc, zero, ℕ}
+pub use mathlib.Core.Bool.{Bool, _&&_, _||_, and-eq-true-iff, and-false, and-true, false, false≢true, not, or-true, true}
 pub use mathlib.Core.List.{List, [], _∷_}
-pub use mathlib.Core.Logic.{_≢_, _⊎_, inl, inr, ⊎-elim}
-pub use mathlib.Core.Path.{_∙_, _≡_, ap, fun-ext, refl, subst, sym}
+pub use mathlib.Core.Path.{_∙_, _≡_, ap, fun-ext, refl, sym}
 pub use native.Mathlib.Decide.{ℕ-discrete}
 pub use native.Mathlib.Nat.{le-of-suc-le-suc, not-suc-le-zero, zero-add, zero-lt-suc}
-pub use native.Mathlib.Numerals.{add-one}
 pub use native.Mathlib.Omega.{arith}
-pub use borrow.Author.Count.{below-more}
 pub use borrow.Author.Needs.{needs}
-pub use borrow.Author.Tests.{eq-eqb, eqb-true, le-leb, le-ltb, leb-true, lt-ltb, ltb-false, ltb-true, ne-eqb, not-false, not-true}
+pub use borrow.Author.Tests.{eq-eqb, eqb-true, le-leb, leb-true, lt-ltb, ltb-false, ltb-true, ne-eqb, not-false, not-true}
 pub use lib.Arith.{le-zero}
 pub use lib.Dec.{eqb, leb, ltb}
-pub use lib.ListN.{drop, drop-of-length-le, getD, length, length-set, replicate, set, take}
-pub use lib.Seq.{drop-cons, getD-set-other, getD-set-same, getD-take, length-take-le}
-pub use Rattle.laws.specs.BoolLaws.{and-left, and-right, denied, implying, not-ltb, same}
+pub use lib.ListN.{getD, length}
+pub use Rattle.laws.specs.BoolLaws.{and-left, and-right, denied, implying, same}
 pub use Rattle.laws.specs.Bools.{bit, implies}
-pub use Rattle.laws.specs.Counts.{all-each, count-never, each-all}
+pub use Rattle.laws.specs.Counts.{all-each, each-all}
 pub use Rattle.laws.specs.HoldLaws.{nth}
-pub use Rattle.laws.specs.ListLaws.{all-drop, any-count}
-unfoldable pub use Rattle.laws.specs.Lists.{all, any, count}
 pub use Rattle.laws.specs.Lists.{holds}
-pub use Rattle.laws.specs.SetLaws.{below-reads, meets-comm, meets-empty, member-empty, member-union}
-pub use Rattle.laws.specs.Sets.{below, member}
-unfoldable pub use Rattle.laws.specs.Sets.{meets, union}
-pub use Rattle.event.specs.Limits.{jobs}
-pub use Rattle.rows.specs.InLine.{count-line, length-lined-le, line-below, lined-below, lined-in-turn, listed-once}
-pub use Rattle.rows.specs.InWay.{in-way-ahead}
+unfoldable pub use Rattle.laws.specs.Lists.{all, count}
+pub use Rattle.laws.specs.SetLaws.{below-reads, member-empty, member-union}
+pub use Rattle.laws.specs.Sets.{below, member, meets, union}
+pub use Rattle.rows.specs.InLine.{count-line, lined-in-turn}
 pub use Rattle.rows.specs.Known.{tokenBy}
 pub use Rattle.rows.specs.KnownLaws.{token-by}
-pub use Rattle.rows.specs.Line.{line, rowOf}
-unfoldable pub use Rattle.rows.specs.Line.{lined, place, under}
-pub use Rattle.rows.specs.LineLaws.{count-keep, each-cons, each-head, each-none, each-tail}
-pub use Rattle.rows.specs.Order.{blocked, idle, live}
-unfoldable pub use Rattle.rows.specs.Order.{ahead, distinct, inWay}
+pub use Rattle.rows.specs.Line.{line, rowOf, lined, under}
+pub use Rattle.rows.specs.LineLaws.{each-cons, each-head, each-none, each-tail}
+pub use Rattle.rows.specs.Order.{blocked, idle, live, ahead}
+unfoldable pub use Rattle.rows.specs.Order.{distinct}
 pub use Rattle.rows.specs.Propositions.{Each}
 unfoldable pub use Rattle.rows.specs.Propositions.{InTurn}
-pub use Rattle.rows.specs.Stand.{Stands, behind, front}
-pub use Rattle.rows.specs.Turns.{not-earlier}
+pub use Rattle.rows.specs.Stand.{behind, front}
 pub use Rattle.rows.specs.declared.row.Row.{Row}
 pub use Rattle.rows.specs.declared.stand.Standing.{Standing}
 pub use Rattle.line.specs.Along.{Along}
@@ -50,3 +40,6 @@ unfoldable pub use Rattle.soundness.specs.Beside.{soundBy}
 pub use Rattle.soundness.specs.BesideLaws.{row-beside}
 pub use Rattle.soundness.specs.Conditions.{counters, idleConditions, ranges}
 pub use Rattle.soundness.specs.declared.Bounds.{Bounds}
+pub use Rattle.walk.specs.Walk.{Found, Walks}
+unfoldable pub use Rattle.walk.specs.Walk.{walks}
+pub use Rattle.walk.specs.declared.Walked.{Walked}

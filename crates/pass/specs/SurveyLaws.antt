@@ -1,9 +1,8 @@
 -- What the line and the walk tell of a table is what a call sees of it.
-use Rattle.pass.specs.Prelude.{Bool, Bounds, Line, Lines, List, Row, _&&_, _∙_, _≡_, all, all-each, and-false, ap, counters, denied, distinct, eqb-true, false, false≢true, holds, idle, idleConditions, implying, le-zero, live, ltb-false, not, not-false, not-true, nth, ranges, refl, rowOf, soundBy, soundIn, sym, token-by, tokenBy, true, zeroed, ℕ}
-use Rattle.pass.specs.Pass.{Found, Surveyed, Walks}
+use Rattle.pass.specs.Prelude.{Bool, Bounds, Found, Line, Lines, List, Row, Walked, Walks, _&&_, _∙_, _≡_, all, all-each, and-false, ap, counters, denied, distinct, eqb-true, false, false≢true, holds, idle, idleConditions, implying, le-zero, live, ltb-false, not, not-false, not-true, nth, ranges, refl, rowOf, soundBy, soundIn, sym, token-by, tokenBy, true, zeroed, ℕ}
+use Rattle.pass.specs.Pass.{Surveyed}
 use Rattle.pass.specs.PassLaws.{walk-sound, zero-sound}
 use Rattle.pass.specs.declared.known.Survey.{Survey}
-use Rattle.pass.specs.declared.walk.Walked.{Walked}
 
 -- an idle row that is zero is the idle row
 zeroed-idle : (r : Row) → zeroed r ≡ true → live r ≡ false → r ≡ idle

@@ -2,10 +2,9 @@
 ghost use mathlib.Core.Bool.{false};
 ghost use mathlib.Core.Path.{_≡_};
 ghost use Rattle.pass.specs.Pass.{Surveyed};
-use crate::gather::line_up;
 use crate::known::Survey;
-use crate::walk::walk;
 use event::JOBS;
+use gather::line_up;
 use line::Line;
 use request::Seen;
 use rows::Row;
@@ -14,6 +13,7 @@ use rows::idle;
 use rows::token;
 use soundness::Bounds;
 use soundness::numbers_sound;
+use walk::walk;
 
 // What is seen of a table that is not sound.
 fn unsound(b: Bounds, line: Line) -> Survey

@@ -2,7 +2,7 @@
 ghost use mathlib.Core.Bool.{false};
 ghost use mathlib.Core.Path.{_≡_};
 ghost use Rattle.line.specs.LineInCode.{Lines};
-ghost use Rattle.pass.specs.Pass.{Walks};
+ghost use Rattle.walk.specs.Walk.{Walks};
 use event::JOBS;
 use laws::sets;
 use line::Line;
@@ -38,7 +38,7 @@ fn unsound(standing: Standing, row: Row) -> Walked
 
 // Goes along the line. Each turn must be above the one before, and each row sound beside what stands before it; that no
 // turn is above the last one given, and that all resources are below R, is tested once, at the end.
-pub(crate) fn walk(rows: [Row; JOBS], line: Line, b: Bounds, job: u32) -> Walked
+pub fn walk(rows: [Row; JOBS], line: Line, b: Bounds, job: u32) -> Walked
     requires { ⌜ Lines rows line ⌝ }
     ensures { λ w. ⌜ Walks b rows job w ⌝ }
 {

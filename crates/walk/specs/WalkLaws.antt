@@ -1,8 +1,7 @@
 -- Laws of the walk: at the beginning, at each job, at the end.
-use Rattle.pass.specs.Prelude.{Bool, Bounds, InTurn, Line, Lines, List, Row, Standing, Stands, [], _&&_, _+_, _<_, _||_, _∙_, _∷_, _≡_, _≢_, _≤_, _⊎_, add-one, ahead, along-stands, along-start, along-step, and-false, and-true, any, any-count, ap, arith, behind, below, besideBy, bit, count, count-keep, count-never, drop, drop-cons, drop-of-length-le, eqb, false, false≢true, front, fun-ext, getD, getD-take, holds, idle, in-way-ahead, inWay, inl, inr, le-ltb, le-zero, length, length-lined-le, line, line-below, lined-in-turn, listed-once, live, lt-ltb, ltb, ltb-false, ltb-true, meets, meets-comm, meets-empty, ne-eqb, not, not-earlier, not-false, not-ltb, not-true, refl, rowOf, subst, suc, sym, true, true≢false, under, ℕ, ⊎-elim}
-use Rattle.pass.specs.Pass.{Found, Walks, walks}
-use Rattle.pass.specs.Loops.{Coming, Walking}
-use Rattle.pass.specs.declared.walk.Walked.{Walked}
+use Rattle.walk.specs.Prelude.{Bool, Bounds, InTurn, Line, Lines, List, Row, Standing, Stands, [], _&&_, _+_, _<_, _||_, _∙_, _∷_, _≡_, _≢_, _≤_, _⊎_, add-one, along-stands, along-start, along-step, and-false, and-true, any, any-count, ap, arith, behind, below, besideBy, bit, count-keep, drop, drop-cons, drop-of-length-le, eqb, false, false≢true, front, getD, getD-take, holds, idle, inl, inr, le-zero, length, length-lined-le, line, line-below, lined-in-turn, listed-once, live, lt-ltb, ltb, ltb-false, ltb-true, meets, ne-eqb, nobody-before, not, not-false, not-ltb, not-true, refl, rowOf, subst, suc, sym, true, true≢false, under, ℕ, ⊎-elim}
+use Rattle.walk.specs.Walk.{Coming, Found, Walking, Walks, walks}
+use Rattle.walk.specs.declared.Walked.{Walked}
 
 -- ---- At the beginning
 
@@ -165,18 +164,6 @@ module _ (rows : List Row) (l : Line) (lines : Lines rows l) where
             rw (behinds, stands, same) (next-finds k left opened (sym rises ∙ not-false t did) (sym beside ∙ not-false u was) this)
 
 -- ---- At the end
-
--- nothing stands before turn 0
-pub nobody-before : (rows : List Row) → Stands rows 0 front
-unfolding ahead
-nobody-before rows =
-    let none : ahead rows 0 ≡ 0 =
-    ap (λ (f : Row → Bool). count f rows) (fun-ext (λ r. not-earlier 0 r (omega arith))) ∙ count-never rows in
-    record {
-      before = sym none;
-      forbids = λ x.
-          meets-comm 0 x ∙ meets-empty x ∙ sym (le-ltb 0 (inWay rows 0 x) (omega (arith, none, in-way-ahead rows 0 x)));
-    }
 
 -- a job that has not come is idle
 never-came :

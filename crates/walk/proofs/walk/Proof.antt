@@ -1,9 +1,9 @@
 -- The walk goes by its laws: a test that fails decides, a job is passed or found, and at the end the whole test is told.
-use Rattle.pass.specs.Prelude.{Standing, _&&_, _+_, _-_, _∙_, _≡_, _≤_, ap, arith, drop, jobs, line, needs, not, ℕ, ⊎-elim}
-use Rattle.pass.specs.Loops.{Walking}
-use Rattle.pass.specs.WalkLaws.{line-job, line-short, walking-end, walking-fails, walking-falls, walking-finds, walking-past, walking-start}
-use Rattle.pass.proofs.walk.walk.Statement.{statement}
-use Rattle.pass.proofs.walk.walk.Tie as tie
+use Rattle.walk.specs.Prelude.{Standing, _&&_, _+_, _-_, _∙_, _≡_, _≤_, ap, arith, drop, jobs, line, needs, not, ℕ, ⊎-elim}
+use Rattle.walk.specs.Walk.{Walking}
+use Rattle.walk.specs.WalkLaws.{line-job, line-short, walking-end, walking-fails, walking-falls, walking-finds, walking-past, walking-start}
+use Rattle.walk.proofs.walk.Statement.{statement}
+use Rattle.walk.proofs.walk.Tie as tie
 
 abbrev Inv-loop : tie.InvT-loop
 Inv-loop b job rows list len s₀ standing₀ row₀ passed₀ p₀ s standing row passed p =

@@ -1,0 +1,4 @@
+-- What is said of gathering.
+pub mod Gather
+pub mod GatherLaws
+pub mod Prelude
