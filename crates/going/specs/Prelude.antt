@@ -7,6 +7,7 @@ pub use native.Mathlib.Omega.{arith}
 pub use borrow.Author.Needs.{needs}
 pub use borrow.Author.Tests.{leb-false}
 pub use lib.ListN.{drop, drop-of-length-le, length, length-drop, length-set, set, take}
+pub use lib.Seq.{set-getD}
 pub use Rattle.laws.specs.CaseLaws.{acceptance-tells, leaves-same}
 pub use Rattle.laws.specs.Cases.{Outcome, fine, refused}
 unfoldable pub use Rattle.laws.specs.Cases.{leaves, outcome}
@@ -34,6 +35,7 @@ pub use Rattle.arbiter.specs.Answering.{accepted-answers-into, refused-answers-
 pub use Rattle.arbiter.specs.Answers.{saidOf}
 pub use Rattle.decision.specs.Accepting.{saw-sound}
 pub use Rattle.arbiter.specs.Carrying.{changes-answer, completion-does, long-cases, may-act}
+pub use Rattle.arbiter.specs.Bounded.{boundsOf}
 pub use Rattle.arbiter.specs.ChangeLaws.{Decides, changeOn, sound-by, sound-last}
 pub use Rattle.decision.specs.Changes.{decided, refusalCases}
 pub use Rattle.arbiter.specs.Meaning.{moved, wakes, timeAt}
