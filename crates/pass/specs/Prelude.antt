@@ -18,13 +18,13 @@ pub use Rattle.laws.specs.HoldLaws.{nth}
 pub use Rattle.laws.specs.Lists.{holds}
 unfoldable pub use Rattle.laws.specs.Lists.{all, count}
 pub use Rattle.laws.specs.SetLaws.{below-reads, member-empty, member-union}
-pub use Rattle.laws.specs.Sets.{below, member, meets, union}
+pub use Rattle.laws.specs.Sets.{below, meets, member, union}
 pub use Rattle.rows.specs.InLine.{count-line, lined-in-turn}
 pub use Rattle.rows.specs.Known.{tokenBy}
 pub use Rattle.rows.specs.KnownLaws.{token-by}
-pub use Rattle.rows.specs.Line.{line, rowOf, lined, under}
+pub use Rattle.rows.specs.Line.{line, rowOf, under}
 pub use Rattle.rows.specs.LineLaws.{each-cons, each-head, each-none, each-tail}
-pub use Rattle.rows.specs.Order.{blocked, idle, live, ahead}
+pub use Rattle.rows.specs.Order.{ahead, blocked, idle, live}
 unfoldable pub use Rattle.rows.specs.Order.{distinct}
 pub use Rattle.rows.specs.Propositions.{Each}
 unfoldable pub use Rattle.rows.specs.Propositions.{InTurn}

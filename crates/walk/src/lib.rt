@@ -59,11 +59,12 @@ pub fn walk(rows: [Row; JOBS], line: Line, b: Bounds, job: u32) -> Walked
         if !live_sound(r, s, b.tokens, b.time) {
             return unsound(standing, row);
         }
+        let next = behind(s, r);
         if k as u32 == job {
             standing = s;
             row = r;
         }
-        s = behind(s, r);
+        s = next;
         passed = turn;
         p += 1;
     }

@@ -56,25 +56,32 @@ returns-2 c =
 behind-requires : tie.Need-behind-requires Inv-loop μ-loop
 behind-requires c κs = omega arith
 
+cast-if3 : tie.Need-cast-if3 Inv-loop μ-loop
+cast-if3 c =
+    let a = c .before .before .before .before .before .before .before .before .before .before .before .before .before .args in
+    let at = c .before .before .before .before .before .before .before .before .loop in
+    let job = line-job (a .t1) (a .line) (c .before .before .before .before .before .before .before .before .before .before .before .before .before .pre) (at .p) (c .before .before .before .before .before .before .before .loop-test .taken) in
+    search needs
+
 loop-again : tie.Need-loop-again Inv-loop μ-loop
 loop-again c =
     let a = c .before .before .before .before .before .before .before .before .before .before .before .before .before .before .args in
     let at = c .before .before .before .before .before .before .before .before .before .loop in
     let rises = c .before .before .before .before .before .earlier in
     let sound = c .before .before .before .live-sound in
-    let found = c .before .if3 in (
+    let found = c .if3 in (
       search needs,
       search needs,
-      ap (λ (s : Standing). s .ahead) (c .behind .ensures) ∙ ap (λ (n : ℕ). n + 1) (at .inv .2),
+      ap (λ (s : Standing). s .ahead) (c .before .behind .ensures) ∙ ap (λ (n : ℕ). n + 1) (at .inv .2),
       ⊎-elim
           (λ w.
           walking-finds (a .t1) (a .line) (c .before .before .before .before .before .before .before .before .before .before .before .before .before .before .pre) (at .p) (c .before .before .before .before .before .before .before .before .loop-test .taken) (at .inv .3)
           (rises .result) (sound .result) (rises .ensures) (c .before .before .before .before .if1 .left) (sound .ensures) (c .before .before .if2 .left)
-          (c .behind .result) (c .behind .ensures) (found .standing) (found .row) (w .0 .taken) (w .1) (w .2))
+          (c .before .behind .result) (c .before .behind .ensures) (found .standing) (found .row) (w .0 .taken) (w .1) (w .2))
           (λ w.
           walking-past (a .t1) (a .line) (c .before .before .before .before .before .before .before .before .before .before .before .before .before .before .pre) (at .p) (c .before .before .before .before .before .before .before .before .loop-test .taken) (at .inv .3)
           (rises .result) (sound .result) (rises .ensures) (c .before .before .before .before .if1 .left) (sound .ensures) (c .before .before .if2 .left)
-          (c .behind .result) (c .behind .ensures) (found .standing) (found .row) (w .0 .left) (w .1) (w .2))
+          (c .before .behind .result) (c .before .behind .ensures) (found .standing) (found .row) (w .0 .left) (w .1) (w .2))
           (found .came),
     )
 
@@ -105,8 +112,8 @@ walk-spec =
     (λ c κs. search needs)
     (λ c κs. search needs)
     returns-2
-    (λ c. search needs)
     behind-requires
+    cast-if3
     (λ c. search needs)
     (λ c. search needs)
     loop-again

@@ -1,5 +1,5 @@
 -- What the numbers, the line and the walk tell is what a call sees.
-use Rattle.pass.specs.Prelude.{lined, needs, not-false, zero}
+use Rattle.pass.specs.Prelude.{needs, not-false}
 use Rattle.pass.specs.SurveyLaws.{not-zeroed, out-of-range, surveyed}
 use Rattle.pass.proofs.whole.survey.Statement.{statement}
 use Rattle.pass.proofs.whole.survey.Tie as tie
