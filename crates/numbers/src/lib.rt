@@ -2,7 +2,7 @@
 ghost use mathlib.Core.Path.{_≡_};
 ghost use Rattle.arbiter.specs.Answers.{lateOf, reportOf, saidOf};
 ghost use Rattle.record.specs.Format.{writingOf};
-ghost use Rattle.norakkeun.specs.Numbers.{eventInNumbers, lateInNumbers, refusalIn, reportInNumbers};
+ghost use Rattle.numbers.specs.Numbers.{eventInNumbers, lateInNumbers, refusalIn, reportInNumbers};
 use arbiter::Late;
 use arbiter::Next;
 use arbiter::Report;
@@ -48,7 +48,7 @@ pub struct LateJobs {
 }
 
 // An event's answer and the next table.
-pub(crate) fn event_in_numbers(next: Next) -> Told
+pub fn event_in_numbers(next: Next) -> Told
     ensures { λ r. ⌜ r ≡ eventInNumbers (saidOf (next .answer)) (next .table) ⌝ }
 {
     let answer = next.answer;
@@ -81,7 +81,7 @@ fn accepted(said: u32, woken: u32, table: Table) -> Told
 }
 
 // A report's answer.
-pub(crate) fn report_in_numbers(reported: Reported) -> JobReport
+pub fn report_in_numbers(reported: Reported) -> JobReport
     ensures { λ r. ⌜ r ≡ reportInNumbers (reportOf reported) ⌝ }
 {
     match reported {
@@ -100,7 +100,7 @@ pub(crate) fn report_in_numbers(reported: Reported) -> JobReport
 }
 
 // The answer to who is overdue.
-pub(crate) fn late_in_numbers(late: Late) -> LateJobs
+pub fn late_in_numbers(late: Late) -> LateJobs
     ensures { λ r. ⌜ r ≡ lateInNumbers (lateOf late) ⌝ }
 {
     match late {
@@ -113,7 +113,7 @@ pub(crate) fn late_in_numbers(late: Late) -> LateJobs
 }
 
 // What writing a record gave.
-pub(crate) fn refusal_in(writing: Writing) -> u32
+pub fn refusal_in(writing: Writing) -> u32
     ensures { λ r. ⌜ r ≡ refusalIn (writingOf writing) ⌝ }
 {
     match writing {

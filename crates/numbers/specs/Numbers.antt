@@ -1,19 +1,13 @@
--- Answers in numbers: what firmware in C or Rust is told.
+-- Answers in numbers, as firmware in C or Rust is told them.
 use Prim.Native.Nat.{ℕ}
 use mathlib.Core.Bool.{false}
-use mathlib.Core.List.{List}
-use mathlib.Core.Path.{_≡_}
-use Rattle.event.specs.declared.events.Entry.{Entry}
-use Rattle.event.specs.declared.events.Event.{Event}
 use Rattle.laws.specs.Cases.{Outcome, fine, refused}
-use Rattle.record.specs.Format.{roomAfter, writeAnswer}
 use Rattle.arbiter.specs.Answers.{Said, saysDone, saysGranted, saysToken, saysWait, saysWoke}
-use Rattle.arbiter.specs.Meaning.{answer, next}
 use Rattle.arbiter.specs.declared.table.Report.{Report}
 use Rattle.arbiter.specs.declared.table.Table.{Table}
-use Rattle.norakkeun.specs.declared.told.JobReport.{JobReport}
-use Rattle.norakkeun.specs.declared.told.LateJobs.{LateJobs}
-use Rattle.norakkeun.specs.declared.told.Told.{Told}
+use Rattle.numbers.specs.declared.JobReport.{JobReport}
+use Rattle.numbers.specs.declared.LateJobs.{LateJobs}
+use Rattle.numbers.specs.declared.Told.{Told}
 
 -- the number of a refusal, or 0
 abbrev pub refusalIn : {A : Type 0} → Outcome A → ℕ
@@ -63,12 +57,3 @@ countIn (fine n) = n
 -- the answer to who is overdue
 abbrev pub lateInNumbers : Outcome ℕ → LateJobs
 lateInNumbers o = record { refusal = refusalIn o; count = countIn o }
-
--- what event e on table t is told, with a list of n entries lent
-abbrev pub eventTold : ℕ → Table → Event → Told
-eventTold n t e = eventInNumbers (answer n t e) (next n t e)
-
--- writing e into the room `before` answered r and left `after` there
-pub record Recorded (e : Entry) (before : List ℕ) (r : ℕ) (after : List ℕ) : Type 0 where
-  pub answers : r ≡ refusalIn (writeAnswer e before)
-  pub leaves : after ≡ roomAfter e before

@@ -1,7 +1,7 @@
 -- A refusal is its number, a report itself.
-use Rattle.norakkeun.specs.Prelude.{needs}
-use Rattle.norakkeun.proofs.told.report_in_numbers.Statement.{statement}
-use Rattle.norakkeun.proofs.told.report_in_numbers.Tie as tie
+use Rattle.numbers.specs.Prelude.{needs}
+use Rattle.numbers.proofs.report_in_numbers.Statement.{statement}
+use Rattle.numbers.proofs.report_in_numbers.Tie as tie
 
 returns : tie.Need-returns
 returns c = rw (c .before .before .reported .given .1, c .number .ensures)

@@ -1,7 +1,7 @@
 -- A refusal is its number; a record that was written is 0.
-use Rattle.norakkeun.specs.Prelude.{needs}
-use Rattle.norakkeun.proofs.told.refusal_in.Statement.{statement}
-use Rattle.norakkeun.proofs.told.refusal_in.Tie as tie
+use Rattle.numbers.specs.Prelude.{needs}
+use Rattle.numbers.proofs.refusal_in.Statement.{statement}
+use Rattle.numbers.proofs.refusal_in.Tie as tie
 
 returns : tie.Need-returns
 returns c = rw (c .before .before .writing .given .1, c .number .ensures)

@@ -1,7 +1,7 @@
 -- Each case of the answer is its number.
-use Rattle.norakkeun.specs.Prelude.{needs, _∙_}
-use Rattle.norakkeun.proofs.told.event_in_numbers.Statement.{statement}
-use Rattle.norakkeun.proofs.told.event_in_numbers.Tie as tie
+use Rattle.numbers.specs.Prelude.{needs, _∙_}
+use Rattle.numbers.proofs.event_in_numbers.Statement.{statement}
+use Rattle.numbers.proofs.event_in_numbers.Tie as tie
 
 returns : tie.Need-returns
 returns c = rw (c .before .before .answer .given .1, c .number .ensures)
