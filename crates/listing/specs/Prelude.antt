@@ -1,6 +1,6 @@
 -- The names from outside that this crate's definitions and proofs use, passed on by one module.
-pub use Prim.Native.Nat.{_*_, _+_, _-_, _<_, _≤_, ℕ}
-pub use mathlib.Core.Bool.{Bool, _||_, false, false≢true, true}
+pub use Prim.Native.Nat.{_*_, _+_, _-_, _<_, _≤_, min, ℕ}
+pub use mathlib.Core.Bool.{Bool, _||_, cond, false, false≢true, true}
 pub use mathlib.Core.List.{List, [], _++_, _∷_, append-assoc, append-nil}
 pub use mathlib.Core.Path.{_∙_, _≡_, ap, refl, subst, sym}
 pub use native.Mathlib.Nat.{add-zero, sub-zero, zero-add}
@@ -29,7 +29,7 @@ pub use Rattle.event.specs.declared.events.Event.the-variants.{Ask, Beat, Compl
 unfoldable pub use Rattle.rows.specs.Line.{keep, lined, place, under}
 unfoldable pub use Rattle.rows.specs.Order.{ahead, distinct, inWay}
 unfoldable pub use Rattle.rows.specs.Sweep.{settled, woken}
-pub use Rattle.arbiter.specs.Answers.{Said, saidOf, saysDone, saysGranted, saysToken, saysWait, saysWoke}
+pub use Rattle.arbiter.specs.Answers.{saidOf}
 unfoldable pub use Rattle.arbiter.specs.Meaning.{answer, next, startAnswer, startTable}
 unfoldable pub use Rattle.arbiter.specs.Sound.{sound}
 pub use Rattle.arbiter.specs.declared.table.Next.{Next}
@@ -42,9 +42,10 @@ pub use Rattle.lines.specs.Promises.{lineRoom}
 unfoldable pub use Rattle.lines.specs.Promises.{wordFrom}
 pub use Rattle.record.specs.Format.{decode, size}
 pub use Rattle.record.specs.FormatLaws.{decode-length}
-pub use Rattle.recording.specs.Recording.{placeAfter, readings}
-pub use Rattle.recording.specs.RecordingLaws.{drop-place, length-readings, place-moves, readings-append, readings-cons, readings-nil, take-place}
-pub use Rattle.stage.specs.Promises.{Begins, Judges}
+pub use Rattle.recording.specs.Recording.{readings}
+unfoldable pub use Rattle.recording.specs.Recording.{placeAfter}
+pub use Rattle.recording.specs.RecordingLaws.{drop-place, length-readings, place-moves, readings-append, readings-cons, readings-nil, readings-some, take-place}
+pub use Rattle.stage.specs.Promises.{Begins, Judges, firstIn, goesOn}
 pub use Rattle.stage.specs.Stages.{byStage, ended, stageAfter, stageAfterFirst}
 unfoldable pub use Rattle.stage.specs.Stages.{tableAfter, word}
 pub use Rattle.stage.specs.declared.Stage.{Stage}
