@@ -15,7 +15,6 @@ pub use Rattle.laws.specs.Cases.{Outcome, fine, refused}
 unfoldable pub use Rattle.laws.specs.Cases.{first, leaves, outcome}
 pub use Rattle.laws.specs.Determined.{determined}
 pub use Rattle.laws.specs.Front.{Wrote}
-unfoldable pub use Rattle.laws.specs.Front.{over}
 pub use Rattle.laws.specs.FrontLaws.{laid-front, then, wrote-length, wrote-none}
 unfoldable pub use Rattle.laws.specs.Lists.{all, count}
 unfoldable pub use Rattle.laws.specs.Sets.{below, inside, meet, meets, union, without}
