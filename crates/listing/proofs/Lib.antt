@@ -1,3 +1,4 @@
 -- Lemmas that only the proofs of functions use.
+mod Alone
+mod First
 mod Puts
-mod Words

@@ -4,6 +4,5 @@ mod replay;
 pub use replay::LINE;
 pub use replay::Listed;
 pub use replay::Replay;
-pub use replay::Stage;
 pub use replay::Stepped;
 pub use replay::Took;

@@ -1,3 +1,3 @@
 -- What the contracts of this crate say.
-pub mod Numbers
 pub mod Prelude
+pub mod Promises

@@ -4,15 +4,16 @@ ghost use lib.ListN.{length};
 ghost use Rattle.event.specs.declared.events.Event.the-variants.{Ask, Beat, Complete, Open, Release};
 ghost use Rattle.event.specs.Limits.{jobs};
 ghost use Rattle.arbiter.specs.Meaning.{listed, overdue, overdueList, report, startAnswer, startTable};
-ghost use Rattle.norakkeun.specs.Numbers.{eventInNumbers, eventTold, lateInNumbers, reportInNumbers};
-use crate::told::JobReport;
-use crate::told::LateJobs;
-use crate::told::Told;
-use crate::told::event_in_numbers;
-use crate::told::late_in_numbers;
-use crate::told::report_in_numbers;
+ghost use Rattle.numbers.specs.Numbers.{eventInNumbers, lateInNumbers, reportInNumbers};
+ghost use Rattle.norakkeun.specs.Promises.{eventTold};
 use arbiter::Table;
 use event::Tick;
+use numbers::JobReport;
+use numbers::LateJobs;
+use numbers::Told;
+use numbers::event_in_numbers;
+use numbers::late_in_numbers;
+use numbers::report_in_numbers;
 
 // The first table: all rows idle, true time is the tick. A refused start gives the all-zero table, which is not sound.
 #[no_mangle]

@@ -2,7 +2,6 @@
 // `norakkeun.h` beside this folder declares them once more; that the two agree is shown by running, not proved.
 mod calls;
 mod records;
-mod told;
 
 pub use calls::norakkeun_ask;
 pub use calls::norakkeun_beat;
@@ -18,6 +17,3 @@ pub use records::norakkeun_record_complete;
 pub use records::norakkeun_record_open;
 pub use records::norakkeun_record_release;
 pub use records::norakkeun_record_start;
-pub use told::JobReport;
-pub use told::LateJobs;
-pub use told::Told;

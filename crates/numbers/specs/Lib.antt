@@ -1,0 +1,3 @@
+-- What answers are in numbers.
+pub mod Numbers
+pub mod Prelude

@@ -1,0 +1,123 @@
+// Answers in numbers, since no enum passes the boundary: each begins with a refusal's number, or 0.
+ghost use mathlib.Core.Path.{_≡_};
+ghost use Rattle.arbiter.specs.Answers.{lateOf, reportOf, saidOf};
+ghost use Rattle.record.specs.Format.{writingOf};
+ghost use Rattle.numbers.specs.Numbers.{eventInNumbers, lateInNumbers, refusalIn, reportInNumbers};
+use arbiter::Late;
+use arbiter::Next;
+use arbiter::Report;
+use arbiter::Reported;
+use arbiter::Table;
+use decision::Answer;
+use event::number;
+use record::Writing;
+use rows::Turn;
+
+// What an accepted event is told; 0 where it is refused.
+const TOKEN: u32 = 1;
+
+const GRANTED: u32 = 2;
+
+const WAIT: u32 = 3;
+
+const DONE: u32 = 4;
+
+const WOKE: u32 = 5;
+
+// What an event is told, how many jobs it woke, and the next table.
+#[repr(C)]
+pub struct Told {
+    pub refusal: u32,
+    pub said: u32,
+    pub woken: u32,
+    pub table: Table,
+}
+
+// What is told of a job's request; with a refusal all of the report is 0.
+#[repr(C)]
+pub struct JobReport {
+    pub refusal: u32,
+    pub report: Report,
+}
+
+// How many jobs are overdue; with a refusal, 0.
+#[repr(C)]
+pub struct LateJobs {
+    pub refusal: u32,
+    pub count: u32,
+}
+
+// An event's answer and the next table.
+pub fn event_in_numbers(next: Next) -> Told
+    ensures { λ r. ⌜ r ≡ eventInNumbers (saidOf (next .answer)) (next .table) ⌝ }
+{
+    let answer = next.answer;
+    let table = next.table;
+    match answer {
+        Answer::No(refusal) => Told {
+            refusal: number(refusal),
+            said: 0,
+            woken: 0,
+            table,
+        },
+        Answer::Token => accepted(TOKEN, 0, table),
+        Answer::Granted => accepted(GRANTED, 0, table),
+        Answer::Wait => accepted(WAIT, 0, table),
+        Answer::Done => accepted(DONE, 0, table),
+        Answer::Woke(woken) => accepted(WOKE, woken, table),
+    }
+}
+
+// An accepted event.
+fn accepted(said: u32, woken: u32, table: Table) -> Told
+    ensures { λ r. ⌜ r ≡ record { refusal = 0; said = said; woken = woken; table = table } ⌝ }
+{
+    Told {
+        refusal: 0,
+        said,
+        woken,
+        table,
+    }
+}
+
+// A report's answer.
+pub fn report_in_numbers(reported: Reported) -> JobReport
+    ensures { λ r. ⌜ r ≡ reportInNumbers (reportOf reported) ⌝ }
+{
+    match reported {
+        Reported::No(refusal) => JobReport {
+            refusal: number(refusal),
+            report: Report {
+                turn: Turn(0),
+                token: false,
+                waiting: false,
+                ahead: 0,
+                in_way: 0,
+            },
+        },
+        Reported::Is(report) => JobReport { refusal: 0, report },
+    }
+}
+
+// The answer to who is overdue.
+pub fn late_in_numbers(late: Late) -> LateJobs
+    ensures { λ r. ⌜ r ≡ lateInNumbers (lateOf late) ⌝ }
+{
+    match late {
+        Late::No(refusal) => LateJobs {
+            refusal: number(refusal),
+            count: 0,
+        },
+        Late::Count(count) => LateJobs { refusal: 0, count },
+    }
+}
+
+// What writing a record gave.
+pub fn refusal_in(writing: Writing) -> u32
+    ensures { λ r. ⌜ r ≡ refusalIn (writingOf writing) ⌝ }
+{
+    match writing {
+        Writing::No(refusal) => number(refusal),
+        Writing::Done => 0,
+    }
+}
