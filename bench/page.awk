@@ -83,10 +83,10 @@ function opening() {
 function around() {
     print "\n## Each call\n"
     printf "%s", "Instructions of one accepted call, T = 8, turns in order of job. Printing is left out, and so is what is around "
-    printf "%s", "a call: reading the case, taking it apart and filling the lent list, as measured by a call that is refused before "
-    printf "%s", "the table is looked at. Handing the table in and out is part of a call. At 64 live rows the opening has 63. A "
-    print "ratio to fewer than ten instructions is not given. A figure below 0 says that the refused call has more around it than"
-    print "this one: a start is handed no table, and the refused call is."
+    printf "%s", "a call: reading the case, taking it apart, filling the lent list and handing one table through, as measured by the "
+    printf "%s", "writing of a record that is refused. So a figure is what a call takes beyond one copy of its table (Norakkeun: about "
+    printf "%s", "250 instructions); the plain program changes the table in place. A start, which is handed no table, may so come to "
+    print "less than 0. At 64 live rows the opening has 63. A ratio to fewer than ten instructions is not given."
 }
 
 function buffers() {

@@ -2,7 +2,7 @@
 //!
 //! ```text
 //! input case CALL LIVE ORDER COUNT    COUNT times the same accepted call
-//! input around CALL LIVE ORDER COUNT  the same, but refused before the table is looked at
+//! input around CALL LIVE ORDER COUNT  the same, but a record is written instead, which is refused
 //! input refused LENGTH COUNT          COUNT times a completion that is refused for its list of LENGTH, on the table
 //!                                     that the first line `table` of standard input shows
 //! input records CALLS LIVE COUNT      a recording: LIVE requests, then COUNT records of these calls in turn
