@@ -1,5 +1,11 @@
 // The lines of what calls say: a word, and numbers behind marks.
-ghost use Prim.Native.Nat.{_≤_};
+ghost use mathlib.Core.List.{[], _∷_};
+ghost use mathlib.Core.Path.{_≡_};
+ghost use Rattle.arbiter.specs.Answers.{lateOf, reportOf, saidOf};
+ghost use Rattle.event.specs.Refusals.{numberOf};
+ghost use Rattle.laws.specs.Bools.{bit};
+ghost use Rattle.record.specs.Format.{writingOf};
+ghost use Rattle.called.specs.Lines.{answerLine, lateLine, refusalLine, reportLine, requestLine, worded, writingLine};
 use arbiter::Late;
 use arbiter::Report;
 use arbiter::Reported;
@@ -53,7 +59,9 @@ pub struct Line {
 }
 
 // The line of a word alone.
-fn plain(word: Word) -> Line {
+fn plain(word: Word) -> Line
+    ensures { λ r. ⌜ r ≡ worded word [] ⌝ }
+{
     Line {
         word,
         marks: NONE,
@@ -62,7 +70,9 @@ fn plain(word: Word) -> Line {
 }
 
 // The line of a word and a number.
-fn counted(word: Word, n: u32) -> Line {
+fn counted(word: Word, n: u32) -> Line
+    ensures { λ r. ⌜ r ≡ worded word (n ∷ []) ⌝ }
+{
     Line {
         word,
         marks: ONE,
@@ -71,12 +81,16 @@ fn counted(word: Word, n: u32) -> Line {
 }
 
 // The line of a refusal.
-fn no(refusal: Refusal) -> Line {
+fn no(refusal: Refusal) -> Line
+    ensures { λ r. ⌜ r ≡ refusalLine (numberOf refusal) ⌝ }
+{
     counted(NO, event::number(refusal))
 }
 
 // The line of an event's or a start's answer.
-pub fn answer(answer: Answer) -> Line {
+pub fn answer(answer: Answer) -> Line
+    ensures { λ r. ⌜ r ≡ answerLine (saidOf answer) ⌝ }
+{
     match answer {
         Answer::No(refusal) => no(refusal),
         Answer::Token => plain(TOKEN),
@@ -88,7 +102,9 @@ pub fn answer(answer: Answer) -> Line {
 }
 
 // The line of how many are overdue.
-pub fn late(late: Late) -> Line {
+pub fn late(late: Late) -> Line
+    ensures { λ r. ⌜ r ≡ lateLine (lateOf late) ⌝ }
+{
     match late {
         Late::No(refusal) => no(refusal),
         Late::Count(count) => counted(OVERDUE, count),
@@ -96,7 +112,9 @@ pub fn late(late: Late) -> Line {
 }
 
 // The line of what writing gave.
-pub fn writing(writing: Writing) -> Line {
+pub fn writing(writing: Writing) -> Line
+    ensures { λ r. ⌜ r ≡ writingLine (writingOf writing) ⌝ }
+{
     match writing {
         Writing::No(refusal) => no(refusal),
         Writing::Done => plain(WROTE),
@@ -105,13 +123,15 @@ pub fn writing(writing: Writing) -> Line {
 
 // 1 for true, 0 for false.
 fn bit(b: bool) -> u64
-    ensures { λ r. ⌜ r ≤ 1 ⌝ }
+    ensures { λ r. ⌜ r ≡ bit b ⌝ }
 {
     if b { 1 } else { 0 }
 }
 
 // The line of a request that is told of.
-fn request(report: Report) -> Line {
+fn request(report: Report) -> Line
+    ensures { λ r. ⌜ r ≡ requestLine report ⌝ }
+{
     let turn = report.turn;
     let token = bit(report.token);
     let waiting = bit(report.waiting);
@@ -130,7 +150,9 @@ fn request(report: Report) -> Line {
 }
 
 // The line of a report.
-pub fn reported(reported: Reported) -> Line {
+pub fn reported(reported: Reported) -> Line
+    ensures { λ r. ⌜ r ≡ reportLine (reportOf reported) ⌝ }
+{
     match reported {
         Reported::No(refusal) => no(refusal),
         Reported::Is(report) => request(report),

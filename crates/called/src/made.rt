@@ -1,13 +1,21 @@
 // Each call, made with what its case hands to it, and what it leaves.
+ghost use mathlib.Core.Path.{_≡_};
+ghost use lib.ListN.{length};
+ghost use Rattle.arbiter.specs.Answers.{saidOf};
+ghost use Rattle.arbiter.specs.Meaning.{listed, overdueList};
+ghost use Rattle.record.specs.Format.{roomAfter};
+ghost use Rattle.called.specs.Left.{eventLeft, left, listAfter, listOf, overdueLeft, reportLeft, startLeft, tabled, writeLeft};
+ghost use Rattle.called.specs.Lines.{answerLine};
 use crate::lines;
 use crate::lines::Line;
 use arbiter::Next;
 use arbiter::Table;
 use cases::Call;
 use cases::Case;
+use event::Entry;
+use event::Event;
 use event::Kind;
 use event::Tick;
-use record::Writing;
 
 // What is shown behind the line of what a call says.
 pub enum Part {
@@ -24,16 +32,22 @@ pub struct Left {
     pub table: Table,
 }
 
-// What is shown first behind the answer to an event of that kind: the list, if it lists jobs.
-fn listed(kind: Kind) -> Part {
-    match kind {
-        Kind::Complete => Part::List,
-        _ => Part::Nothing,
+// What is shown behind the answer to an event of that kind: the list, if it may wake others.
+fn listed(kind: Kind) -> Part
+    ensures { λ r. ⌜ r ≡ listOf kind ⌝ }
+{
+    let shape = event::shape_of(kind);
+    if shape.wakes {
+        Part::List
+    } else {
+        Part::Nothing
     }
 }
 
 // What a call leaves that is shown with its table.
-fn tabled(line: Line, then: Part, table: Table) -> Left {
+fn tabled(line: Line, then: Part, table: Table) -> Left
+    ensures { λ r. ⌜ r ≡ tabled line then table ⌝ }
+{
     Left {
         line,
         then,
@@ -43,22 +57,52 @@ fn tabled(line: Line, then: Part, table: Table) -> Left {
 }
 
 // What an event or a start leaves.
-fn next(next: Next, then: Part) -> Left {
+fn next_left(next: Next, then: Part) -> Left
+    ensures { λ r. ⌜ r ≡ tabled (answerLine (saidOf (next .answer))) then (next .table) ⌝ }
+{
     let answer = next.answer;
     let table = next.table;
     tabled(lines::answer(answer), then, table)
 }
 
+// What an event leaves, with that part shown behind its answer.
+fn event_left(event: Event, then: Part, table: Table, list: &mut [u8]) -> Left
+    ensures { λ r. ⌜ r ≡ eventLeft (length (now (list .entry))) table then event ⌝ }
+    ensures { λ _. ⌜ now (list .exit) ≡ listed table event (now (list .entry)) ⌝ }
+{
+    next_left(table.apply(event, list), then)
+}
+
+// What a report leaves.
+fn report_left(job: u32, table: Table) -> Left
+    ensures { λ r. ⌜ r ≡ reportLeft table job ⌝ }
+{
+    tabled(lines::reported(table.report(job)), Part::Nothing, table)
+}
+
+// What the question who is overdue leaves.
+fn overdue_left(tick: Tick, table: Table, list: &mut [u8]) -> Left
+    ensures { λ r. ⌜ r ≡ overdueLeft (length (now (list .entry))) table (tick .0) ⌝ }
+    ensures { λ _. ⌜ now (list .exit) ≡ overdueList table (tick .0) (now (list .entry)) ⌝ }
+{
+    tabled(lines::late(table.overdue(tick, list)), Part::List, table)
+}
+
 // What a start with the numbers of the table leaves.
-fn started(tick: Tick, table: Table) -> Left {
+fn start_left(tick: Tick, table: Table) -> Left
+    ensures { λ r. ⌜ r ≡ startLeft table (tick .0) ⌝ }
+{
     let start = Table::start(table.tokens, table.resources, tick, table.limit);
-    next(start, Part::Nothing)
+    next_left(start, Part::Nothing)
 }
 
 // What the writing of an entry leaves.
-fn written(writing: Writing, table: Table) -> Left {
+fn write_left(entry: Entry, table: Table, list: &mut [u8]) -> Left
+    ensures { λ r. ⌜ r ≡ writeLeft table (now (list .entry)) entry ⌝ }
+    ensures { λ _. ⌜ now (list .exit) ≡ roomAfter entry (now (list .entry)) ⌝ }
+{
     Left {
-        line: lines::writing(writing),
+        line: lines::writing(record::write(entry, list)),
         then: Part::List,
         last: Part::Nothing,
         table,
@@ -66,20 +110,17 @@ fn written(writing: Writing, table: Table) -> Left {
 }
 
 // What any call leaves, with a list lent to it.
-pub fn left_by(case: Case, call: Call, table: Table, list: &mut [u8]) -> Left {
+pub fn left_by(case: Case, call: Call, table: Table, list: &mut [u8]) -> Left
+    ensures { λ r. ⌜ r ≡ left case table (now (list .entry)) call ⌝ }
+    ensures { λ _. ⌜ now (list .exit) ≡ listAfter case table (now (list .entry)) call ⌝ }
+{
     let tick = case.tick;
     match call {
-        Call::Event(kind) => next(table.apply(cases::event_in(case, kind), list), listed(kind)),
-        Call::Report => tabled(
-            lines::reported(table.report(case.job)),
-            Part::Nothing,
-            table,
-        ),
-        Call::Overdue => tabled(lines::late(table.overdue(tick, list)), Part::List, table),
-        Call::Start => started(tick, table),
-        _ => written(
-            record::write(cases::entry_in(case, call, table), list),
-            table,
-        ),
+        Call::Event(kind) => event_left(cases::event_in(case, kind), listed(kind), table, list),
+        Call::Report => report_left(case.job, table),
+        Call::Overdue => overdue_left(tick, table, list),
+        Call::Start => start_left(tick, table),
+        Call::Write(kind) => write_left(Entry::Event(cases::event_in(case, kind)), table, list),
+        Call::WriteStart => write_left(Entry::Start(cases::start_in(case, table)), table, list),
     }
 }

@@ -1,6 +1,7 @@
 -- The calls by their numbers, and what is handed to them.
-use Prim.Native.Nat.{ℕ, _-_}
+use Prim.Native.Nat.{ℕ, zero, suc, _+_, _-_, _*_, _%_}
 use mathlib.Core.Bool.{cond}
+use mathlib.Core.List.{List, [], _∷_, _++_}
 use mathlib.Core.Option.{Option, some, none}
 use lib.Dec.{eqb, ltb}
 use Rattle.arbiter.specs.declared.table.Table.{Table}
@@ -36,9 +37,15 @@ callNumbered n =
     (cond (eqb n 7) (For call.Start)
     (cond (eqb n 13) (For call.WriteStart) (eventCallNumbered n))))
 
--- the event of that kind that a case hands over, and its start
+-- the event of that kind that a case hands over
 abbrev pub caseEvent : Case → Kind → Event
 caseEvent c k = eventOf (parts k (c .job) (c .tick) (c .set))
 
+-- the start that a case hands over, with the numbers of its table
 abbrev pub caseStart : Case → Table → Start
 caseStart c t = record { tokens = t .tokens; resources = t .resources; tick = c .tick; limit = t .limit }
+
+-- a list of n entries as it is lent: entry i is (7i + 3) modulo 256
+unfoldable pub lent : ℕ → List ℕ
+lent zero = []
+lent (suc n) = lent n ++ ((7 * n + 3) % 256 ∷ [])

@@ -1,10 +1,9 @@
 // What a case hands to its call.
 ghost use mathlib.Core.Path.{_≡_};
-ghost use Rattle.cases.specs.Calls.{caseEvent, caseStart};
-use crate::calls::Call;
+ghost use lib.ListN.{length};
+ghost use Rattle.cases.specs.Calls.{caseEvent, caseStart, lent};
 use crate::layout::Case;
 use arbiter::Table;
-use event::Entry;
 use event::Event;
 use event::Kind;
 use event::Parts;
@@ -23,8 +22,8 @@ pub fn event_in(case: Case, kind: Kind) -> Event
     })
 }
 
-// The start that a case hands over.
-fn start_in(case: Case, table: Table) -> Start
+// The start that a case hands over, with the numbers of its table.
+pub fn start_in(case: Case, table: Table) -> Start
     ensures { λ r. ⌜ r ≡ caseStart case table ⌝ }
 {
     let tick = case.tick;
@@ -36,16 +35,10 @@ fn start_in(case: Case, table: Table) -> Start
     }
 }
 
-// The entry that a case has written: an event of the call's kind, or a start.
-pub fn entry_in(case: Case, call: Call, table: Table) -> Entry {
-    match call {
-        Call::Write(kind) => Entry::Event(event_in(case, kind)),
-        _ => Entry::Start(start_in(case, table)),
-    }
-}
-
 // Fills the lent list with what stands there before a call: entry i is (7i + 3) modulo 256.
-pub fn lend(list: &mut [u8]) {
+pub fn lend(list: &mut [u8])
+    ensures { λ _. ⌜ now (list .exit) ≡ lent (length (now (list .entry))) ⌝ }
+{
     let mut i = 0;
     while i < list.len() {
         list[i] = ((i % 256 * 7 + 3) % 256) as u8;

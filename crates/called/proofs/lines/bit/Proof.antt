@@ -1,0 +1,13 @@
+-- Either way.
+use Rattle.called.specs.Prelude.{needs}
+use Rattle.called.proofs.lines.bit.Statement.{statement}
+use Rattle.called.proofs.lines.bit.Tie as tie
+
+returns : tie.Need-returns
+returns c = rw (c .if1 .taken)
+
+returns-2 : tie.Need-returns-2
+returns-2 c = rw (c .if1 .left)
+
+pub bit-spec : {M : Type 1} → statement M
+bit-spec = tie.close (tie.spec returns returns-2)
