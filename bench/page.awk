@@ -82,22 +82,20 @@ function opening() {
 
 function around() {
     print "\n## Each call\n"
-    printf "%s", "Instructions of one accepted call, T = 8, turns in order of job. Printing is left out, and so is what is around "
-    printf "%s", "a call: reading the case, taking it apart, filling the lent list and handing one table through, as measured by the "
-    printf "%s", "writing of a record that is refused. So a figure is what a call takes beyond one copy of its table (Norakkeun: about "
-    printf "%s", "250 instructions); the plain program changes the table in place. A start, which is handed no table, may so come to "
-    print "less than 0. At 64 live rows the opening has 63. A ratio to fewer than ten instructions is not given."
+    printf "%s", "Instructions of one accepted call, T = 8, turns in order of job. Norakkeun's calls are made through the archive "
+    printf "%s", "that firmware links and counted from where the call is entered to where it returns, with every copy that it makes; "
+    printf "%s", "the copies of the table that the caller makes to hand it in, and of the answer, are the caller's. The plain program "
+    printf "%s", "changes the table in place; what is around its calls (reading the case, taking it apart, filling the lent list) is "
+    printf "%s", "taken off as the writing of a record that is refused has it. At 64 live rows the opening has 63. A ratio to fewer "
+    print "than ten instructions is not given."
 }
 
 function buffers() {
-    printf "\nWere buffers cleared first? In Norakkeun yes: `probe` clears 65,536 bytes for the list and %s for the case each ", \
-        big(bytes)
-    printf "time, `replay` a block of %s bytes for each %s records and a room of 65,536 once. In the plain program no: its ", \
+    printf "\nWere buffers cleared first? By Norakkeun's calls 576 bytes, for the line and a column of turns; by `replay` a block of "
+    printf "%s bytes for each %s records and a room of 65,536 once. In the plain program once, at its start; a call that puts the ", \
         big(14 * records), big(records)
-    printf "%s", "buffers are cleared once, at its start; a call that puts the jobs in line clears 512 bytes for that, which is in its "
-    printf "%s", "figures. In the table above the rest is left out with all that is around a call "
-    printf "(Norakkeun %s instructions, plain %s; with a list of 64, %s and %s). ", big(alone["norakkeun"]), big(alone["plain"]), \
-        big(listed["norakkeun"]), big(listed["plain"])
+    printf "%s", "jobs in line clears 512 bytes for that. What clearing is in a call is in its figures; what is around a call of the "
+    printf "plain program, and left out, takes %s instructions, with a list of 64 %s. ", big(alone["plain"]), big(listed["plain"])
     print "In the figures of the replay below it is included, but for what is cleared at the start."
 }
 

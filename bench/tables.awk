@@ -21,9 +21,9 @@ function big(x, s) {
     return s
 }
 
-# Plain does almost nothing in some calls, and a ratio to that, or of what is below 0, says nothing.
+# Plain does almost nothing in some calls, and a ratio to that says nothing.
 function ratio(a, b) {
-    if (a == "-" || b == "-" || a < 0 || b < 10) return "-"
+    if (a == "-" || b == "-" || b < 10) return "-"
     return a / b < 9.95 ? sprintf("%.1f", a / b) : big(a / b + 0.5)
 }
 
