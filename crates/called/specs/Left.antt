@@ -29,6 +29,10 @@ listOf k = cond (described k .wakes) part.List part.Nothing
 abbrev pub tabled : Line → Part → Table → Left
 tabled line then t = record { line = line; then = then; last = part.Table; table = t }
 
+-- a line, and the list behind it; the table is kept, and not shown
+abbrev pub untabled : Line → Table → Left
+untabled line t = record { line = line; then = part.List; last = part.Nothing; table = t }
+
 -- what an event on a table leaves, with a list of n entries lent, and this part behind its answer
 abbrev pub eventLeft : ℕ → Table → Part → Event → Left
 eventLeft n t then e = tabled (answerLine (answer n t e)) then (next n t e)
@@ -47,10 +51,9 @@ startLeft t tick =
     tabled (answerLine (startAnswer (t .tokens) (t .resources) (t .limit))) part.Nothing
     (startTable (t .tokens) (t .resources) tick (t .limit))
 
--- what the writing of an entry into the list `lent` leaves: that list is shown, the table is not
+-- what the writing of an entry into the list `lent` leaves
 abbrev pub writeLeft : Table → List ℕ → Entry → Left
-writeLeft t lent e =
-    record { line = writingLine (writeAnswer e lent); then = part.List; last = part.Nothing; table = t }
+writeLeft t lent e = untabled (writingLine (writeAnswer e lent)) t
 
 -- what each call of a case leaves, on its table and with this list lent
 abbrev pub left : Case → Table → List ℕ → Call → Left

@@ -1,11 +1,9 @@
 // Each call, made with what its case hands to it, and what it leaves.
 ghost use mathlib.Core.Path.{_≡_};
-ghost use lib.ListN.{length};
 ghost use Rattle.arbiter.specs.Answers.{saidOf};
-ghost use Rattle.arbiter.specs.Meaning.{listed, overdueList};
-ghost use Rattle.record.specs.Format.{roomAfter};
-ghost use Rattle.called.specs.Left.{eventLeft, left, listAfter, listOf, overdueLeft, reportLeft, startLeft, tabled, writeLeft};
-ghost use Rattle.called.specs.Lines.{answerLine};
+ghost use Rattle.record.specs.Format.{writingOf};
+ghost use Rattle.called.specs.Left.{left, listAfter, listOf, startLeft, tabled, untabled};
+ghost use Rattle.called.specs.Lines.{answerLine, writingLine};
 use crate::lines;
 use crate::lines::Line;
 use arbiter::Next;
@@ -13,9 +11,9 @@ use arbiter::Table;
 use cases::Call;
 use cases::Case;
 use event::Entry;
-use event::Event;
 use event::Kind;
 use event::Tick;
+use record::Writing;
 
 // What is shown behind the line of what a call says.
 pub enum Part {
@@ -65,29 +63,6 @@ fn next_left(next: Next, then: Part) -> Left
     tabled(lines::answer(answer), then, table)
 }
 
-// What an event leaves, with that part shown behind its answer.
-fn event_left(event: Event, then: Part, table: Table, list: &mut [u8]) -> Left
-    ensures { λ r. ⌜ r ≡ eventLeft (length (now (list .entry))) table then event ⌝ }
-    ensures { λ _. ⌜ now (list .exit) ≡ listed table event (now (list .entry)) ⌝ }
-{
-    next_left(table.apply(event, list), then)
-}
-
-// What a report leaves.
-fn report_left(job: u32, table: Table) -> Left
-    ensures { λ r. ⌜ r ≡ reportLeft table job ⌝ }
-{
-    tabled(lines::reported(table.report(job)), Part::Nothing, table)
-}
-
-// What the question who is overdue leaves.
-fn overdue_left(tick: Tick, table: Table, list: &mut [u8]) -> Left
-    ensures { λ r. ⌜ r ≡ overdueLeft (length (now (list .entry))) table (tick .0) ⌝ }
-    ensures { λ _. ⌜ now (list .exit) ≡ overdueList table (tick .0) (now (list .entry)) ⌝ }
-{
-    tabled(lines::late(table.overdue(tick, list)), Part::List, table)
-}
-
 // What a start with the numbers of the table leaves.
 fn start_left(tick: Tick, table: Table) -> Left
     ensures { λ r. ⌜ r ≡ startLeft table (tick .0) ⌝ }
@@ -97,12 +72,11 @@ fn start_left(tick: Tick, table: Table) -> Left
 }
 
 // What the writing of an entry leaves.
-fn write_left(entry: Entry, table: Table, list: &mut [u8]) -> Left
-    ensures { λ r. ⌜ r ≡ writeLeft table (now (list .entry)) entry ⌝ }
-    ensures { λ _. ⌜ now (list .exit) ≡ roomAfter entry (now (list .entry)) ⌝ }
+fn write_left(writing: Writing, table: Table) -> Left
+    ensures { λ r. ⌜ r ≡ untabled (writingLine (writingOf writing)) table ⌝ }
 {
     Left {
-        line: lines::writing(record::write(entry, list)),
+        line: lines::writing(writing),
         then: Part::List,
         last: Part::Nothing,
         table,
@@ -116,11 +90,23 @@ pub fn left_by(case: Case, call: Call, table: Table, list: &mut [u8]) -> Left
 {
     let tick = case.tick;
     match call {
-        Call::Event(kind) => event_left(cases::event_in(case, kind), listed(kind), table, list),
-        Call::Report => report_left(case.job, table),
-        Call::Overdue => overdue_left(tick, table, list),
+        Call::Event(kind) => {
+            next_left(table.apply(cases::event_in(case, kind), list), listed(kind))
+        },
+        Call::Report => tabled(
+            lines::reported(table.report(case.job)),
+            Part::Nothing,
+            table,
+        ),
+        Call::Overdue => tabled(lines::late(table.overdue(tick, list)), Part::List, table),
         Call::Start => start_left(tick, table),
-        Call::Write(kind) => write_left(Entry::Event(cases::event_in(case, kind)), table, list),
-        Call::WriteStart => write_left(Entry::Start(cases::start_in(case, table)), table, list),
+        Call::Write(kind) => write_left(
+            record::write(Entry::Event(cases::event_in(case, kind)), list),
+            table,
+        ),
+        Call::WriteStart => write_left(
+            record::write(Entry::Start(cases::start_in(case, table)), list),
+            table,
+        ),
     }
 }

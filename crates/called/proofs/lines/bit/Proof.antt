@@ -1,5 +1,4 @@
 -- Either way.
-use Rattle.called.specs.Prelude.{needs}
 use Rattle.called.proofs.lines.bit.Statement.{statement}
 use Rattle.called.proofs.lines.bit.Tie as tie
 

@@ -1,5 +1,5 @@
 -- The loop keeps the list's length, mul-add-mod-self-right, and that the entries before the present one are filled.
-use Rattle.cases.specs.Prelude.{List, _%_, _<_, _*_, _+_, _-_, _/_, _∙_, _≡_, _≤_, ap, add-one, arith, length, mul-add-mod-self-right, needs, refl, set, sym, take, take-length, mul-add-mod-self-right, take-suc-set, ℕ}
+use Rattle.cases.specs.Prelude.{List, _%_, _*_, _+_, _-_, _/_, _<_, _∙_, _≡_, _≤_, add-one, ap, arith, length, mul-add-mod-self-right, needs, refl, set, sym, take, take-length, take-suc-set, ℕ}
 use Rattle.cases.specs.Calls.{lent}
 use Rattle.cases.proofs.handed.lend.Statement.{statement}
 use Rattle.cases.proofs.handed.lend.Tie as tie
