@@ -57,7 +57,7 @@ pub use Rattle.arbiter.specs.declared.table.Table.{Table}
 pub use Rattle.decision.specs.declared.deciding.Change.{Change}
 unfoldable pub use Rattle.soundness.specs.Beside.{soundBy}
 pub use Rattle.soundness.specs.declared.Bounds.{Bounds}
-pub use Rattle.verdict.specs.Refusals.{Call, appliesTo, calling, timeFrom}
+pub use Rattle.grounds.specs.Refusals.{Call, appliesTo, calling, timeFrom}
 pub use Rattle.rows.specs.Turns.{turn-earlier}
 pub use Rattle.pass.specs.Pass.{Known, Surveyed, seenBy}
 pub use Rattle.pass.specs.declared.known.Survey.{Survey}

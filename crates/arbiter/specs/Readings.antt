@@ -1,7 +1,7 @@
 -- What the tests on sets say of single resources: the refusals 11 to 15, Q3, and the set conditions of a sound row.
 use Rattle.arbiter.specs.Prelude.{Above, Apart, Ask, Beyond, Bool, InTheWay, List, None, Reads, Release, Row, Shared, Some, Table, Tick, Under, Within, _<_, _and_, _↔_, _∙_, _≡_, arith, below, below-reads, blocked, case, empty, eqb, eqb-false, eqb-true, false, hold, holds, in-way-at, in-way-some, inWay, inside, inside-reads, le-leb, leb-true, lt-ltb, ltb-false, ltb-true, meets-reads, member, none, nth, reading, reads-not, refl, rowOf, some-member, sym, true, true≢false, ℕ}
 use Rattle.arbiter.specs.Refusals.{cases}
-use Rattle.verdict.specs.Verdicts.{setCases}
+use Rattle.grounds.specs.Grounds.{setCases}
 use Rattle.arbiter.specs.OwnRow.{OwnRow}
 use Rattle.arbiter.specs.Sound.{ownConditions}
 

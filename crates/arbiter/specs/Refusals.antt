@@ -14,8 +14,8 @@ use Rattle.event.specs.declared.refusal.Refusal.the-variants.{BadStart, ShortLi
 use Rattle.laws.specs.Cases.{Case}
 use Rattle.laws.specs.Lists.{holds}
 use Rattle.arbiter.specs.Sound.{ranges, rowIn, sound, tokenOf}
-pub use Rattle.verdict.specs.Refusals.{Call, calling}
-use Rattle.verdict.specs.Refusals.{appliesTo}
+pub use Rattle.grounds.specs.Refusals.{Call, calling}
+use Rattle.grounds.specs.Refusals.{appliesTo}
 use Rattle.request.specs.declared.seen.Seen.{Seen}
 use Rattle.arbiter.specs.declared.table.Table.{Table}
 

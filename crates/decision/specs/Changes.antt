@@ -8,7 +8,7 @@ use Rattle.event.specs.declared.events.Event.{Event}
 use Rattle.event.specs.declared.events.Event.the-variants.{Beat, Open, Ask, Release, Complete}
 use Rattle.laws.specs.Cases.{Case, Outcome, fine, refused}
 use Rattle.request.specs.Change.{asking, opening, releasing}
-use Rattle.verdict.specs.Refusals.{calling, eventCases, timeFrom}
+use Rattle.grounds.specs.Refusals.{calling, eventCases, timeFrom}
 use Rattle.request.specs.declared.seen.Seen.{Seen}
 use Rattle.rows.specs.declared.row.Row.{Row}
 use Rattle.decision.specs.declared.deciding.Change.{Change}

@@ -13,4 +13,4 @@ pub use Rattle.event.specs.RefusalLaws.{cases-positive}
 pub use Rattle.event.specs.declared.clock.Moment.{Moment}
 pub use Rattle.event.specs.declared.events.Event.{Event}
 pub use Rattle.request.specs.declared.seen.Seen.{Seen}
-pub use Rattle.verdict.specs.Refusals.{appliesTo, calling, timeFrom}
+pub use Rattle.grounds.specs.Refusals.{appliesTo, calling, timeFrom}

@@ -5,7 +5,7 @@ ghost use mathlib.Core.Path.{_≡_};
 ghost use Rattle.event.specs.Clock.{momentOf};
 ghost use Rattle.event.specs.Events.{tickOf};
 ghost use Rattle.laws.specs.Cases.{outcome};
-ghost use Rattle.verdict.specs.Refusals.{timeFrom};
+ghost use Rattle.grounds.specs.Refusals.{timeFrom};
 ghost use Rattle.decision.specs.Changes.{askAnswer, changeAt, changeFor, decided, keeps, openAnswer, opens, refusalCases};
 use crate::answer::Answer;
 use event::Event;

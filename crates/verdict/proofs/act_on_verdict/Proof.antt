@@ -1,8 +1,6 @@
 -- The cases of a job that acts, then those of the set.
-use Rattle.verdict.specs.Prelude.{Complete, needs, refl}
+use Rattle.verdict.specs.Prelude.{Complete, calling, eventCases, needs, refl, setCases}
 use Rattle.verdict.proofs.Verdicts.{by-first, by-second}
-use Rattle.verdict.specs.Refusals.{calling, eventCases}
-use Rattle.verdict.specs.Verdicts.{setCases}
 use Rattle.verdict.proofs.act_on_verdict.Statement.{statement}
 use Rattle.verdict.proofs.act_on_verdict.Tie as tie
 

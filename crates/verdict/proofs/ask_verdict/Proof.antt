@@ -1,8 +1,7 @@
 -- The cases that an ask shares with a release, then those of its members.
-use Rattle.verdict.specs.Prelude.{needs, refl}
+use Rattle.verdict.specs.Prelude.{askCases, calling, needs, refl}
 use Rattle.verdict.proofs.Verdicts.{by-first, by-second}
-use Rattle.verdict.specs.Refusals.{calling}
-use Rattle.verdict.specs.Verdicts.{actOnCases, askCases}
+use Rattle.verdict.specs.Verdicts.{actOnCases}
 use Rattle.verdict.proofs.ask_verdict.Statement.{statement}
 use Rattle.verdict.proofs.ask_verdict.Tie as tie
 

@@ -1,8 +1,6 @@
 -- The cases of the entry, then those of the job that acts.
-use Rattle.verdict.specs.Prelude.{needs, refl}
+use Rattle.verdict.specs.Prelude.{actorCases, calling, entryCases, needs, refl}
 use Rattle.verdict.proofs.Verdicts.{by-first, by-second}
-use Rattle.verdict.specs.Refusals.{calling}
-use Rattle.verdict.specs.Verdicts.{actorCases, entryCases}
 use Rattle.verdict.proofs.complete_verdict.Statement.{statement}
 use Rattle.verdict.proofs.complete_verdict.Tie as tie
 

@@ -1,7 +1,6 @@
 -- Case 7, then the cases of the set, then that of the turn.
-use Rattle.verdict.specs.Prelude.{_∙_, needs, outcome-is, outcome-past, refl, sym, this}
+use Rattle.verdict.specs.Prelude.{_∙_, needs, outcome-is, outcome-past, refl, setCases, sym, this, turnCases}
 use Rattle.verdict.proofs.Verdicts.{by-first, by-second}
-use Rattle.verdict.specs.Verdicts.{setCases, turnCases}
 use Rattle.verdict.proofs.open_at.Statement.{statement}
 use Rattle.verdict.proofs.open_at.Tie as tie
 

@@ -1,8 +1,7 @@
 -- The cases of the entry, then those of the opening.
-use Rattle.verdict.specs.Prelude.{needs, refl}
+use Rattle.verdict.specs.Prelude.{calling, entryCases, needs, refl}
 use Rattle.verdict.proofs.Verdicts.{by-first, by-second}
-use Rattle.verdict.specs.Refusals.{calling}
-use Rattle.verdict.specs.Verdicts.{entryCases, openCases}
+use Rattle.verdict.specs.Verdicts.{openCases}
 use Rattle.verdict.proofs.open_verdict.Statement.{statement}
 use Rattle.verdict.proofs.open_verdict.Tie as tie
 

@@ -1,8 +1,7 @@
 -- The cases that a release shares with an ask, then that of its members.
-use Rattle.verdict.specs.Prelude.{needs, refl}
+use Rattle.verdict.specs.Prelude.{calling, needs, refl, releaseCases}
 use Rattle.verdict.proofs.Verdicts.{by-first, by-second}
-use Rattle.verdict.specs.Refusals.{calling}
-use Rattle.verdict.specs.Verdicts.{actOnCases, releaseCases}
+use Rattle.verdict.specs.Verdicts.{actOnCases}
 use Rattle.verdict.proofs.release_verdict.Statement.{statement}
 use Rattle.verdict.proofs.release_verdict.Tie as tie
 

@@ -1,7 +1,7 @@
 -- A turn that is neither lower nor higher is equal.
-use Rattle.verdict.specs.Prelude.{Bool, _∙_, _≡_, _≤_, ap, arith, eq-eqb, eqb, false, highest, ltb, ltb-false, ltb-true, ne-eqb, needs, not, refl, sym, true, ℕ}
-use Rattle.verdict.proofs.spent.Statement.{statement}
-use Rattle.verdict.proofs.spent.Tie as tie
+use Rattle.grounds.specs.Prelude.{Bool, _∙_, _≡_, _≤_, ap, arith, eq-eqb, eqb, false, highest, ltb, ltb-false, ltb-true, ne-eqb, needs, not, refl, sym, true, ℕ}
+use Rattle.grounds.proofs.spent.Statement.{statement}
+use Rattle.grounds.proofs.spent.Tie as tie
 
 -- of a number that is no lower, not to be higher is to be equal
 not-higher : (a b : ℕ) → b ≤ a → not (ltb b a) ≡ eqb a b

@@ -1,7 +1,7 @@
 -- The tests are the cases, in their order.
-use Rattle.verdict.specs.Prelude.{_∙_, ap, eq-eqb, ne-eqb, needs, none, not, outcome-is, past, sym, this}
-use Rattle.verdict.proofs.set_verdict.Statement.{statement}
-use Rattle.verdict.proofs.set_verdict.Tie as tie
+use Rattle.grounds.specs.Prelude.{_∙_, ap, eq-eqb, ne-eqb, needs, none, not, outcome-is, past, sym, this}
+use Rattle.grounds.proofs.set_verdict.Statement.{statement}
+use Rattle.grounds.proofs.set_verdict.Tie as tie
 
 returns : tie.Need-returns
 returns c = outcome-is _ (this (eq-eqb _ _ (c .if1 .taken)))

@@ -1,7 +1,7 @@
 -- The tests are cases 3 and 4; what passes them is judged by the clock.
-use Rattle.verdict.specs.Prelude.{_∙_, forward, le-leb, lt-leb, needs, outcome-is, outcome-past, past, this}
-use Rattle.verdict.proofs.enter.Statement.{statement}
-use Rattle.verdict.proofs.enter.Tie as tie
+use Rattle.grounds.specs.Prelude.{_∙_, forward, le-leb, lt-leb, needs, outcome-is, outcome-past, past, this}
+use Rattle.grounds.proofs.enter.Statement.{statement}
+use Rattle.grounds.proofs.enter.Tie as tie
 
 returns : tie.Need-returns
 returns c = outcome-is _ (this (c .if1 .taken))

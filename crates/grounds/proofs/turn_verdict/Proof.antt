@@ -1,7 +1,7 @@
 -- The test is the case.
-use Rattle.verdict.specs.Prelude.{_∙_, needs, none, outcome-is, past, sym, this}
-use Rattle.verdict.proofs.turn_verdict.Statement.{statement}
-use Rattle.verdict.proofs.turn_verdict.Tie as tie
+use Rattle.grounds.specs.Prelude.{_∙_, needs, none, outcome-is, past, sym, this}
+use Rattle.grounds.proofs.turn_verdict.Statement.{statement}
+use Rattle.grounds.proofs.turn_verdict.Tie as tie
 
 returns : tie.Need-returns
 returns c = outcome-is _ (this (sym (c .before .spent .ensures) ∙ c .if1 .taken))

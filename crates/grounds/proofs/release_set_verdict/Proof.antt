@@ -1,7 +1,7 @@
 -- The test is the case.
-use Rattle.verdict.specs.Prelude.{_∙_, ap, needs, none, not, outcome-is, past, sym, this}
-use Rattle.verdict.proofs.release_set_verdict.Statement.{statement}
-use Rattle.verdict.proofs.release_set_verdict.Tie as tie
+use Rattle.grounds.specs.Prelude.{_∙_, ap, needs, none, not, outcome-is, past, sym, this}
+use Rattle.grounds.proofs.release_set_verdict.Statement.{statement}
+use Rattle.grounds.proofs.release_set_verdict.Tie as tie
 
 returns : tie.Need-returns
 returns c = outcome-is _ (this (ap not (sym (c .before .inside .ensures)) ∙ c .if1 .taken))
