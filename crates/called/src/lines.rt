@@ -5,7 +5,7 @@ use arbiter::Report;
 use arbiter::Reported;
 use decision::Answer;
 use event::Refusal;
-use record::Writing;
+use writing::Writing;
 
 // How many letters a word has at most.
 pub const LETTERS: usize = 8;

@@ -7,7 +7,7 @@ use cases::Call;
 use cases::Case;
 use event::Kind;
 use event::Tick;
-use record::Writing;
+use writing::Writing;
 
 // What is shown behind the line of what a call says.
 pub enum Part {
@@ -78,7 +78,7 @@ pub fn left_by(case: Case, call: Call, table: Table, list: &mut [u8]) -> Left {
         Call::Overdue => tabled(lines::late(table.overdue(tick, list)), Part::List, table),
         Call::Start => started(tick, table),
         _ => written(
-            record::write(cases::entry_in(case, call, table), list),
+            writing::write(cases::entry_in(case, call, table), list),
             table,
         ),
     }
