@@ -8,7 +8,7 @@ use Rattle.event.specs.declared.events.Entry.{Entry}
 use Rattle.event.specs.declared.events.Entry.the-variants as entry
 use Rattle.event.specs.declared.events.Event.{Event}
 use Rattle.event.specs.declared.events.Kind.{Kind}
-use Rattle.record.specs.Format.{roomAfter, writeAnswer}
+use Rattle.writing.specs.Meaning.{roomAfter, writeAnswer}
 use Rattle.arbiter.specs.Meaning.{answer, listed, next, overdue, overdueList, report, startAnswer, startTable}
 use Rattle.arbiter.specs.declared.table.Table.{Table}
 use Rattle.cases.specs.Calls.{caseEvent, caseStart}

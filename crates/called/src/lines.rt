@@ -4,14 +4,14 @@ ghost use mathlib.Core.Path.{_≡_};
 ghost use Rattle.arbiter.specs.Answers.{lateOf, reportOf, saidOf};
 ghost use Rattle.event.specs.Refusals.{numberOf};
 ghost use Rattle.laws.specs.Bools.{bit};
-ghost use Rattle.record.specs.Format.{writingOf};
+ghost use Rattle.writing.specs.Meaning.{writingOf};
 ghost use Rattle.called.specs.Lines.{answerLine, lateLine, refusalLine, reportLine, requestLine, worded, writingLine};
 use arbiter::Late;
 use arbiter::Report;
 use arbiter::Reported;
 use decision::Answer;
 use event::Refusal;
-use record::Writing;
+use writing::Writing;
 
 // How many letters a word has at most.
 pub const LETTERS: usize = 8;

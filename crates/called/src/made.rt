@@ -1,7 +1,7 @@
 // Each call, made with what its case hands to it, and what it leaves.
 ghost use mathlib.Core.Path.{_≡_};
 ghost use Rattle.arbiter.specs.Answers.{saidOf};
-ghost use Rattle.record.specs.Format.{writingOf};
+ghost use Rattle.writing.specs.Meaning.{writingOf};
 ghost use Rattle.called.specs.Left.{left, listAfter, listOf, startLeft, tabled, untabled};
 ghost use Rattle.called.specs.Lines.{answerLine, writingLine};
 use crate::lines;
@@ -13,7 +13,7 @@ use cases::Case;
 use event::Entry;
 use event::Kind;
 use event::Tick;
-use record::Writing;
+use writing::Writing;
 
 // What is shown behind the line of what a call says.
 pub enum Part {
@@ -101,11 +101,11 @@ pub fn left_by(case: Case, call: Call, table: Table, list: &mut [u8]) -> Left
         Call::Overdue => tabled(lines::late(table.overdue(tick, list)), Part::List, table),
         Call::Start => start_left(tick, table),
         Call::Write(kind) => write_left(
-            record::write(Entry::Event(cases::event_in(case, kind)), list),
+            writing::write(Entry::Event(cases::event_in(case, kind)), list),
             table,
         ),
         Call::WriteStart => write_left(
-            record::write(Entry::Start(cases::start_in(case, table)), list),
+            writing::write(Entry::Start(cases::start_in(case, table)), list),
             table,
         ),
     }

@@ -4,7 +4,7 @@ use mathlib.Core.List.{List}
 use mathlib.Core.Path.{_≡_}
 use Rattle.event.specs.declared.events.Entry.{Entry}
 use Rattle.event.specs.declared.events.Event.{Event}
-use Rattle.record.specs.Format.{roomAfter, writeAnswer}
+use Rattle.writing.specs.Meaning.{roomAfter, writeAnswer}
 use Rattle.arbiter.specs.Meaning.{answer, next}
 use Rattle.arbiter.specs.declared.table.Table.{Table}
 use Rattle.numbers.specs.Numbers.{eventInNumbers, refusalIn}

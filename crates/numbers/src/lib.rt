@@ -1,7 +1,7 @@
 // Answers in numbers, since no enum passes the boundary: each begins with a refusal's number, or 0.
 ghost use mathlib.Core.Path.{_≡_};
 ghost use Rattle.arbiter.specs.Answers.{lateOf, reportOf, saidOf};
-ghost use Rattle.record.specs.Format.{writingOf};
+ghost use Rattle.writing.specs.Meaning.{writingOf};
 ghost use Rattle.numbers.specs.Numbers.{eventInNumbers, lateInNumbers, refusalIn, reportInNumbers};
 use arbiter::Late;
 use arbiter::Next;
@@ -10,8 +10,8 @@ use arbiter::Reported;
 use arbiter::Table;
 use decision::Answer;
 use event::number;
-use record::Writing;
 use rows::Turn;
+use writing::Writing;
 
 // What an accepted event is told; 0 where it is refused.
 const TOKEN: u32 = 1;
