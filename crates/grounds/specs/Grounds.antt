@@ -1,4 +1,4 @@
--- The cases of an event part by part, as code tests them: `verdict` joins them to `eventCases` again.
+-- The cases of an event part by part, as code tests them.
 use Prim.Native.Nat.{ℕ}
 use mathlib.Core.Bool.{not}
 use mathlib.Core.List.{List, [], _∷_}

@@ -1,4 +1,4 @@
--- Cases that several verdicts share, or that one joins on the way, as code puts them together from the grounds.
+-- Parts of an event's cases that are joined on the way to its verdict, as code joins them.
 use Prim.Native.Nat.{ℕ}
 use mathlib.Core.List.{List, _∷_, _++_}
 use Rattle.event.specs.Refusals.{refusing}

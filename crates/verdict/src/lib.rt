@@ -1,5 +1,5 @@
-// Why an event is refused: the grounds on which each kind of event is, put together. A later part is asked only where the
-// earlier ones accept.
+// Why an event is refused: for each kind of event its grounds, put together in the order of the list. A later part is asked
+// only where the earlier ones accept.
 ghost use mathlib.Core.Path.{_≡_};
 ghost use Rattle.event.specs.Clock.{momentOf};
 ghost use Rattle.event.specs.declared.events.Kind.the-variants.{Ask, Beat, Complete, Open, Release};
