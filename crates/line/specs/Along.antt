@@ -4,7 +4,6 @@ use Prim.Native.Nat.{ℕ, _+_, _<_}
 use mathlib.Core.Bool.{_||_}
 use mathlib.Core.List.{List}
 use mathlib.Core.Path.{_≡_}
-use lib.Dec.{ltb}
 use Rattle.laws.specs.Lists.{any, count}
 use Rattle.laws.specs.Sets.{meets}
 use Rattle.rows.specs.Line.{rowOf}

@@ -1,5 +1,5 @@
 -- Going along a line for a job's standing, place by place.
-use Rattle.upkeep.specs.Prelude.{List, Standing, [], _+_, _<_, _∙_, _∷_, _≡_, _≢_, _≤_, add-one, ap, cond, drop, drop-cons, drop-of-length-le, eq-eqb, eqb, front, getD, length, ne-eqb, refl, union, ℕ}
+use Rattle.upkeep.specs.Prelude.{List, Standing, _+_, _<_, _∙_, _∷_, _≡_, _≢_, _≤_, add-one, drop, drop-cons, drop-of-length-le, eq-eqb, front, getD, length, ne-eqb, union, ℕ}
 use Rattle.upkeep.specs.Upkeep.{standingIn}
 
 -- the standing with p jobs before it that declare these sets

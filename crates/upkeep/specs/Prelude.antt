@@ -1,6 +1,6 @@
 -- The names from outside that this crate's definitions and proofs use, passed on by one module.
 pub use Prim.Native.Nat.{_+_, _-_, _<_, _≤_, suc, zero, ℕ}
-pub use mathlib.Core.Bool.{Bool, cond, false, not, true}
+pub use mathlib.Core.Bool.{Bool, cond, false, true}
 pub use mathlib.Core.List.{List, [], _++_, _∷_}
 pub use mathlib.Core.Logic.{_≢_}
 pub use mathlib.Core.Path.{_∙_, _≡_, ap, refl, subst, sym}

@@ -1,5 +1,5 @@
 -- Laws of a list without one of its entries.
-use Rattle.upkeep.specs.Prelude.{List, [], _++_, _+_, _-_, _<_, _∙_, _∷_, _≡_, _≢_, _≤_, ap, arith, besides, cond, drop, eq-eqb, getD, keep, le-of-suc-le-suc, length, ne-eqb, not, not-suc-le-zero, refl, set, suc, sym, take, zero, zero-lt-suc, ℕ}
+use Rattle.upkeep.specs.Prelude.{List, [], _++_, _+_, _-_, _<_, _∷_, _≡_, _≢_, _≤_, ap, arith, besides, drop, eq-eqb, getD, keep, le-of-suc-le-suc, length, ne-eqb, not-suc-le-zero, refl, set, suc, sym, take, zero, zero-lt-suc, ℕ}
 use Rattle.upkeep.specs.Upkeep.{removed}
 
 -- the entry behind a place is copied there, and its own place is to spare

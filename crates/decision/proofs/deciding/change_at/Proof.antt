@@ -1,5 +1,5 @@
 -- What each kind of event changes is what its own functions make.
-use Rattle.decision.specs.Prelude.{needs, _∙_}
+use Rattle.decision.specs.Prelude.{needs}
 use Rattle.decision.proofs.deciding.change_at.Statement.{statement}
 use Rattle.decision.proofs.deciding.change_at.Tie as tie
 
