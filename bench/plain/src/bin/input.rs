@@ -3,21 +3,18 @@
 //! ```text
 //! input case CALL LIVE ORDER COUNT    COUNT times the same accepted call
 //! input around CALL LIVE ORDER COUNT  the same, but a record is written instead, which is refused
-//! input refused LENGTH COUNT          COUNT times a completion that is refused for its list of LENGTH, on the table
-//!                                     that the first line `table` of standard input shows
 //! input records CALLS LIVE COUNT      a recording: LIVE requests, then COUNT records of these calls in turn
 //! ```
 //!
 //! ORDER is `rising` (turns in order of job) or `mixed`.
 
-use std::io::{self, BufRead, Write};
+use std::io::{self, Write};
 
 const JOBS: usize = 64;
 const TOKENS: usize = 8;
 const LIMIT: u64 = 1000;
 /// Past the first wrap of the tick.
 const TIME: u64 = 5_000_000_000;
-const COMPLETE: u8 = 4;
 const WRITE_OPEN: u8 = 9;
 
 type Row = [u64; 5];
@@ -82,7 +79,7 @@ fn call(name: &str, live: usize, order: &str) -> Option<Call> {
         "ask" => (2, first, 2, 0, live),
         "ask-wait" => (2, third()?, 4, 0, live),
         "release" => (3, first, 1, 0, live),
-        "complete" => (COMPLETE, first, 0, 64, live),
+        "complete" => (4, first, 0, 64, live),
         "report" => (5, job_at(order, live - 1), 0, 0, live),
         "overdue" => (6, 0, 0, 64, live),
         "start" => (7, 0, 0, 0, live),
@@ -104,23 +101,6 @@ fn table(order: &str, live: usize) -> Table {
     }
 }
 
-/// The table in the line that a program printed of it.
-fn shown(line: &str) -> Option<Table> {
-    let mut words = line.strip_prefix("table ")?.split(' ');
-    let mut table = table("rising", 0);
-    for number in &mut table.numbers {
-        *number = words.next()?.parse().ok()?;
-    }
-    for word in words {
-        let (job, numbers) = word.split_once(':')?;
-        let row = table.rows.get_mut(job.parse::<usize>().ok()?)?;
-        for (number, text) in row.iter_mut().zip(numbers.split(',')) {
-            *number = text.parse().ok()?;
-        }
-    }
-    Some(table)
-}
-
 fn case(call: &Call, table: &Table) -> Vec<u8> {
     let [tokens, resources, limit, time, last] = table.numbers;
     let mut bytes = vec![call.number];
@@ -136,20 +116,6 @@ fn case(call: &Call, table: &Table) -> Vec<u8> {
         bytes.extend(number.to_be_bytes());
     }
     bytes
-}
-
-/// A list shorter than 64 is the lowest refusal of a completion, so nothing else of the case matters.
-fn refused(length: u16) -> Option<Vec<u8>> {
-    let mut lines = io::stdin().lock().lines().map_while(Result::ok);
-    let table = lines.find_map(|line| shown(&line))?;
-    let call = Call {
-        number: COMPLETE,
-        job: 0,
-        set: 0,
-        length,
-        live: 0,
-    };
-    Some(case(&call, &table))
 }
 
 fn record(kind: u16, job: usize, tick: u32, set: u64) -> Vec<u8> {
@@ -192,7 +158,6 @@ fn made(words: &[&str]) -> Option<Vec<u8>> {
             let table = table(order, call.live);
             Some(case(&call, &table).repeat(number(count)?))
         }
-        ["refused", length, count] => Some(refused(length.parse().ok()?)?.repeat(number(count)?)),
         ["records", calls, live, count] => Some(records(calls, number(live)?, number(count)?)),
         _ => None,
     }
