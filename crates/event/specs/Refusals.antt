@@ -1,11 +1,11 @@
--- The numbers that document 01 gives the refusals, and cases by the refusals' names.
+-- The numbers that documents 01 and 02 give the refusals, and cases by the refusals' names.
 use Prim.Native.Nat.{ℕ}
 use mathlib.Core.Bool.{Bool, false, _||_}
 use mathlib.Core.List.{List, [], _∷_, map}
 use lib.Dec.{eqb}
 use Rattle.laws.specs.Cases.{Case, when}
 use Rattle.event.specs.declared.refusal.Refusal.{Refusal}
-use Rattle.event.specs.declared.refusal.Refusal.the-variants.{BadStart, ShortList, UnsoundTable, NoSuchJob, ClockGoneBack, TimeSpent, AlreadyLive, NotLive, NoToken, StillWaiting, EmptySet, NoSuchResource, NotDeclared, AlreadyHeld, NotHeld, TurnsSpent, WrongLength, UnknownKind, BitSet, StartOutOfPlace}
+use Rattle.event.specs.declared.refusal.Refusal.the-variants.{BadStart, ShortList, UnsoundTable, NoSuchJob, ClockGoneBack, TimeSpent, AlreadyLive, NotLive, NoToken, StillWaiting, EmptySet, NoSuchResource, NotDeclared, AlreadyHeld, NotHeld, TurnsSpent, WrongLength, UnknownKind, BitSet, StartOutOfPlace, WrongSize, UnknownVersion}
 
 -- the number of each refusal
 abbrev pub numberOf : Refusal → ℕ
@@ -29,6 +29,8 @@ numberOf WrongLength = 17
 numberOf UnknownKind = 18
 numberOf BitSet = 19
 numberOf StartOutOfPlace = 20
+numberOf WrongSize = 21
+numberOf UnknownVersion = 22
 
 -- the case of a refusal, which applies when b is true
 abbrev pub refusing : Refusal → Bool → Case

@@ -1,8 +1,8 @@
-// The refusals of document 01, each under a name.
+// The refusals of document 01 and of its change requests, each under a name.
 ghost use mathlib.Core.Path.{_≡_};
 ghost use Rattle.event.specs.Refusals.{numberOf};
 
-// In the order of their numbers, 1 to 20; a later number goes at the end.
+// In the order of their numbers, 1 to 22; a later number goes at the end.
 pub enum Refusal {
     BadStart,
     ShortList,
@@ -24,9 +24,11 @@ pub enum Refusal {
     UnknownKind,
     BitSet,
     StartOutOfPlace,
+    WrongSize,
+    UnknownVersion,
 }
 
-// The number that document 01 gives a refusal, to print.
+// The number that the documents give a refusal, to print.
 pub fn number(refusal: Refusal) -> u32
     ensures { λ n. ⌜ n ≡ numberOf refusal ⌝ }
 {
@@ -51,5 +53,7 @@ pub fn number(refusal: Refusal) -> u32
         Refusal::UnknownKind => 18,
         Refusal::BitSet => 19,
         Refusal::StartOutOfPlace => 20,
+        Refusal::WrongSize => 21,
+        Refusal::UnknownVersion => 22,
     }
 }

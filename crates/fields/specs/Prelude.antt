@@ -12,4 +12,4 @@ pub use lib.Pow.{high, mod-pow-add, pow-add, pow-mono, pow-pos, shl-exact, shr-l
 pub use lib.Seq.{drop-append-add, drop-append-le, drop-at, drop-cons, drop-drop, drop-nil, length-take-le, take-add, take-append-le, take-at}
 pub use Rattle.laws.specs.Determined.{determined}
 unfoldable pub use Rattle.laws.specs.Front.{laid, over}
-pub use Rattle.laws.specs.FrontLaws.{laid-front, laid-laid, laid-left, laid-none, laid-right}
+pub use Rattle.laws.specs.FrontLaws.{laid-front, laid-laid, laid-left, laid-none, laid-one, laid-right}

@@ -9,7 +9,7 @@ use Rattle.event.specs.Limits.{highest, jobs}
 use Rattle.event.specs.Refusals.{casesBy}
 use Rattle.event.specs.declared.events.Kind.{Kind}
 use Rattle.event.specs.declared.refusal.Refusal.{Refusal}
-use Rattle.event.specs.declared.refusal.Refusal.the-variants.{BadStart, ShortList, UnsoundTable, NoSuchJob, ClockGoneBack, TimeSpent, AlreadyLive, NotLive, NoToken, StillWaiting, EmptySet, NoSuchResource, NotDeclared, AlreadyHeld, NotHeld, TurnsSpent, WrongLength, UnknownKind, BitSet, StartOutOfPlace}
+use Rattle.event.specs.declared.refusal.Refusal.the-variants.{BadStart, ShortList, UnsoundTable, NoSuchJob, ClockGoneBack, TimeSpent, AlreadyLive, NotLive, NoToken, StillWaiting, EmptySet, NoSuchResource, NotDeclared, AlreadyHeld, NotHeld, TurnsSpent, WrongLength, UnknownKind, BitSet, StartOutOfPlace, WrongSize, UnknownVersion}
 use Rattle.laws.specs.Cases.{Case}
 use Rattle.laws.specs.Sets.{below, inside, meets}
 use Rattle.rows.specs.Order.{live}
@@ -49,6 +49,8 @@ appliesTo s c WrongLength = false
 appliesTo s c UnknownKind = false
 appliesTo s c BitSet = false
 appliesTo s c StartOutOfPlace = false
+appliesTo s c WrongSize = false
+appliesTo s c UnknownVersion = false
 
 -- the cases of an event of this kind, but for those of a lent list
 abbrev pub eventCases : Seen → Call → Kind → List Case

@@ -29,7 +29,7 @@ pub use Rattle.event.specs.Refusals.{among, casesBy, numberOf, refusing}
 pub use Rattle.event.specs.declared.clock.Tick.{Tick}
 pub use Rattle.event.specs.declared.events.Event.the-variants.{Ask, Beat, Complete, Open, Release}
 pub use Rattle.event.specs.declared.refusal.Refusal.{Refusal}
-pub use Rattle.event.specs.declared.refusal.Refusal.the-variants.{AlreadyHeld, AlreadyLive, BadStart, BitSet, ClockGoneBack, EmptySet, NoSuchJob, NoSuchResource, NoToken, NotDeclared, NotHeld, NotLive, ShortList, StartOutOfPlace, StillWaiting, TimeSpent, TurnsSpent, UnknownKind, UnsoundTable, WrongLength}
+pub use Rattle.event.specs.declared.refusal.Refusal.the-variants.{AlreadyHeld, AlreadyLive, BadStart, BitSet, ClockGoneBack, EmptySet, NoSuchJob, NoSuchResource, NoToken, NotDeclared, NotHeld, NotLive, ShortList, StartOutOfPlace, StillWaiting, TimeSpent, TurnsSpent, UnknownKind, UnknownVersion, UnsoundTable, WrongLength, WrongSize}
 pub use Rattle.rows.specs.InLine.{lined-in-turn, listed-once}
 pub use Rattle.rows.specs.InWay.{ahead-mono, in-way-ahead}
 unfoldable pub use Rattle.rows.specs.Line.{keep, lined, place, under}

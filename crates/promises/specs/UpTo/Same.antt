@@ -1,6 +1,6 @@
 -- What is the same on two tables that agree up to turn n: the row of each request up to n, who stands before it, what is in
 -- its way, and so what it is answered.
-use Rattle.promises.specs.Prelude.{_&&_, _+_, _<_, AlreadyHeld, AlreadyLive, BadStart, BitSet, Bool, Case, ClockGoneBack, EmptySet, List, NoSuchJob, NoSuchResource, NoToken, NotDeclared, NotHeld, NotLive, Open, Outcome, Refusal, Row, Said, ShortList, StartOutOfPlace, StillWaiting, Table, Tick, TimeSpent, TurnsSpent, UnknownKind, UnsoundTable, WrongLength, [], about, ahead, among, and-left, answer, ap, applies, arith, below, blocked, calling, casesBy, difference, earlier, earlier-turn, eqb, false, fine, first, first-front, goneBack, hasJob, inWay, inside, jobOf, jobs, leb, live, lt-irrefl, ltb, meets, not, numberOf, outcome, refl, refused, refusing, report, rowIn, rowOf, said, saysDone, saysGranted, saysToken, saysWait, saysWoke, some-first, sound, suc, sym, timeAt, timeSpent, true, true≢false, unless, when, zero, _||_, ℕ, _∙_, _∷_, _≡_, _≤_}
+use Rattle.promises.specs.Prelude.{_&&_, _+_, _<_, AlreadyHeld, AlreadyLive, BadStart, BitSet, Bool, Case, ClockGoneBack, EmptySet, List, NoSuchJob, NoSuchResource, NoToken, NotDeclared, NotHeld, NotLive, Open, Outcome, Refusal, Row, Said, ShortList, StartOutOfPlace, StillWaiting, Table, Tick, TimeSpent, TurnsSpent, UnknownKind, UnknownVersion, UnsoundTable, WrongLength, WrongSize, [], about, ahead, among, and-left, answer, ap, applies, arith, below, blocked, calling, casesBy, difference, earlier, earlier-turn, eqb, false, fine, first, first-front, goneBack, hasJob, inWay, inside, jobOf, jobs, leb, live, lt-irrefl, ltb, meets, not, numberOf, outcome, refl, refused, refusing, report, rowIn, rowOf, said, saysDone, saysGranted, saysToken, saysWait, saysWoke, some-first, sound, suc, sym, timeAt, timeSpent, true, true≢false, unless, when, zero, _||_, ℕ, _∙_, _∷_, _≡_, _≤_}
 use Rattle.event.specs.declared.events.Event.{Event}
 use Rattle.promises.specs.History.Words.{isFine}
 use Rattle.kept.specs.Sound.Words.{seen}
@@ -84,6 +84,8 @@ module _ {n : ℕ} {t u : Table} (a : Agree n t u) where
       same-applies tick s UnknownKind q = refl
       same-applies tick s BitSet q = refl
       same-applies tick s StartOutOfPlace q = refl
+      same-applies tick s WrongSize q = refl
+      same-applies tick s UnknownVersion q = refl
 
       -- so the cases of a call of one of them are the same
       pub same-cases :
