@@ -1,6 +1,7 @@
 -- What a service file is, and what reading and writing its parts promise.
 pub mod FieldsIn
 pub mod File
+pub mod FileLaws
 pub mod Placing
 pub mod PlacingLaws
 pub mod Prelude
