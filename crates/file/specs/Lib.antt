@@ -2,6 +2,7 @@
 pub mod FieldsIn
 pub mod File
 pub mod FileLaws
+pub mod PlacedLaws
 pub mod Placing
 pub mod PlacingLaws
 pub mod Prelude

@@ -1,12 +1,14 @@
 -- Rows of a file put into a table one by one, as code does it: each is tested against the rows that are there by then.
-use Prim.Native.Nat.{ℕ, _<_}
+use Prim.Native.Nat.{ℕ, _<_, _≤_}
 use mathlib.Core.Bool.{Bool, true, not, _&&_}
 use mathlib.Core.List.{List, [], _∷_}
+use mathlib.Core.Path.{_≡_}
 use lib.Dec.{ltb}
-use lib.ListN.{set}
+use lib.ListN.{length, set}
 use Rattle.event.specs.Limits.{jobs}
-use Rattle.rows.specs.Line.{rowOf}
-use Rattle.rows.specs.Order.{live}
+use Rattle.rows.specs.Line.{line, rowOf}
+use Rattle.rows.specs.Order.{ahead, idle, live}
+use Rattle.rows.specs.Propositions.{Distinct}
 use Rattle.rows.specs.declared.row.Row.{Row}
 use Rattle.file.specs.File.{rowSaid}
 use Rattle.file.specs.declared.format.FileRow.{FileRow}
@@ -24,3 +26,11 @@ free rows f = not (live (rowOf rows (f .job)))
 unfoldable pub fits : ℕ → List Row → List FileRow → Bool
 fits n rows [] = true
 fits n rows (f ∷ fs) = ltb n (f .turn) && free rows f && fits (f .turn) (set rows (f .job) (rowSaid f)) fs
+
+-- The rows of a table into which rows of turns above n can be put: no turn is above n, so whoever comes stands behind all.
+pub record UpTo (n : ℕ) (rows : List Row) : Type 0 where
+  pub long : length rows ≡ jobs
+  pub given : (j : ℕ) → rowOf rows j .turn .0 ≤ n
+  pub idles : (j : ℕ) → rowOf rows j .turn .0 ≡ 0 → rowOf rows j ≡ idle
+  pub apart : Distinct rows
+  pub behind : (m : ℕ) → n < m → ahead rows m ≡ length (line rows)
