@@ -20,6 +20,11 @@ fits-one n rows f fs ok =
       and-right (ltb n (f .turn) && free rows f) rest ok,
     )
 
+pub length-placed : (rows : List Row) (fs : List FileRow) → length (placed rows fs) ≡ length rows
+unfolding placed
+length-placed rows [] = refl
+length-placed rows (f ∷ fs) = length-placed (set rows (f .job) (rowSaid f)) fs ∙ length-set rows (f .job) (rowSaid f)
+
 -- what was live before stays as it is
 placed-keeps :
     (n : ℕ) (rows : List Row) (fs : List FileRow) → fits n rows fs ≡ true → (j : ℕ) → 0 < rowOf rows j .turn .0 →
