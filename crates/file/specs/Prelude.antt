@@ -2,33 +2,36 @@
 pub use Prim.Native.Nat.{_%_, _*_, _+_, _-_, _<_, _^_, _≤_, suc, zero, ℕ}
 pub use mathlib.Core.Bool.{Bool, _&&_, _||_, and-false, and-true, false, not, true}
 pub use mathlib.Core.List.{List, [], _++_, _∷_, append-nil, map}
-pub use mathlib.Core.Logic.{_≢_}
+pub use mathlib.Core.Logic.{_↔_, _≢_}
 pub use mathlib.Core.Path.{_∙_, _≡_, ap, refl, subst, sym}
 pub use native.Mathlib.Decide.{decLt, ℕ-discrete}
 pub use native.Mathlib.Omega.{arith}
 pub use borrow.Author.Needs.{needs}
-pub use borrow.Author.Tests.{eq-eqb, le-ltb, lt-ltb, ltb-false, ltb-true, ne-eqb, not-true}
+pub use borrow.Author.Tests.{eq-eqb, eqb-true, le-ltb, lt-ltb, ltb-false, ltb-true, ne-eqb, not-false, not-true}
 pub use lib.Arith.{le-zero}
 pub use lib.Dec.{eqb, ltb}
-pub use lib.ListN.{drop, drop-of-length-le, length, length-append, length-map, length-replicate, length-set, replicate, set, take, take-append-drop}
+pub use lib.ListN.{drop, drop-of-length-le, length, length-append, length-drop, length-map, length-replicate, length-set, replicate, set, take, take-append-drop}
 pub use lib.Pow.{pow-mono}
 pub use lib.Seq.{append-snoc, drop-at, drop-drop, ext-getD, getD-set-other, getD-set-same, length-take-le, set-getD, set-set}
-pub use Rattle.laws.specs.BoolLaws.{and-left, and-right}
+pub use Rattle.laws.specs.BoolLaws.{and-left, and-right, or-clear}
 pub use Rattle.laws.specs.Bools.{bit}
-pub use Rattle.laws.specs.CaseLaws.{outcome-is}
-pub use Rattle.laws.specs.Cases.{fine}
-pub use Rattle.laws.specs.Chains.{past}
+pub use Rattle.laws.specs.CaseLaws.{acceptance-tells, clear, outcome-is}
+pub use Rattle.laws.specs.Cases.{fine, refused}
+unfoldable pub use Rattle.laws.specs.Cases.{case, first}
+pub use Rattle.laws.specs.Chains.{past, this}
 unfoldable pub use Rattle.laws.specs.Front.{over}
 pub use Rattle.laws.specs.ListLaws.{none-above}
 unfoldable pub use Rattle.laws.specs.Lists.{all, any, count}
 pub use Rattle.laws.specs.SetLaws.{below-reads, inside-reads, inside-refl}
 unfoldable pub use Rattle.laws.specs.Sets.{below}
 pub use Rattle.laws.specs.Sets.{inside}
-pub use Rattle.fields.specs.DigitLaws.{below-take}
+pub use Rattle.fields.specs.DigitLaws.{below-drop, below-take}
 pub use Rattle.fields.specs.Fields.{Fit, total}
 pub use Rattle.fields.specs.Packing.{Bytes, pack, unpack}
 pub use Rattle.fields.specs.PackingLaws.{fit-unpack, length-pack, length-unpack, pack-unpack, unpack-append, unpack-each, unpack-pack}
 pub use Rattle.event.specs.Limits.{jobs}
+pub use Rattle.event.specs.Refusals.{numberOf}
+pub use Rattle.event.specs.declared.refusal.Refusal.the-variants.{BitSet, UnknownVersion, UnsoundTable, WrongSize}
 pub use Rattle.rows.specs.InLine.{length-lined-le, line-below}
 pub use Rattle.rows.specs.Line.{line, rowOf}
 unfoldable pub use Rattle.rows.specs.Line.{lined, under}
