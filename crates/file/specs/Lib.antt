@@ -9,3 +9,4 @@ pub mod Prelude
 pub mod Promises
 pub mod RoundTrip
 pub mod SoundLaws
+pub mod Worked
