@@ -7,6 +7,7 @@ use Rattle.file.specs.declared.format.FileRow.{FileRow}
 
 -- ---- How long
 
+-- so many bytes for each row
 pub length-rows : (fs : List FileRow) → length (rowsBytes fs) ≡ rowSize * length fs
 unfolding rowsBytes
 length-rows [] = refl
@@ -43,9 +44,11 @@ module _ (ws : List ℕ) where
 
 -- ---- What is written is read
 
+-- the head, whatever stands behind it
 pub head-back : (h : FileHead) (rest : List ℕ) → Fit (headOrder headWidths) (headOrder h) → headIn (headBytes h ++ rest) ≡ h
 head-back h rest fit = ap headNamed (front-unpacked (headOrder headWidths) (headOrder h) rest fit refl)
 
+-- the rows, one behind the other
 pub rows-back : (fs : List FileRow) → Every RowFits fs → rowsIn (length fs) (rowsBytes fs) ≡ fs
 unfolding rowsIn rowsBytes
 rows-back [] fit = refl

@@ -36,7 +36,8 @@ unfoldable pub fits : ℕ → List Row → List FileRow → Bool
 fits n rows [] = true
 fits n rows (f ∷ fs) = ltb n (f .turn) && free rows f && fits (f .turn) (set rows (f .job) (rowSaid f)) fs
 
--- The rows of a table into which rows of turns above n can be put: no turn is above n, so whoever comes stands behind all.
+-- The rows of a table that has given no turn above n: idle rows are zero, no two turns are alike, and before any higher
+-- turn stand all who are in line.
 pub record UpTo (n : ℕ) (rows : List Row) : Type 0 where
   pub long : length rows ≡ jobs
   pub given : (j : ℕ) → rowOf rows j .turn .0 ≤ n

@@ -31,7 +31,7 @@ unfoldable pub use Rattle.fields.specs.Fields.{bits, split}
 pub use Rattle.fields.specs.Packing.{Bytes}
 unfoldable pub use Rattle.fields.specs.Packing.{pack, row, unpack}
 pub use Rattle.fields.specs.PackingLaws.{fit-unpack, length-pack, length-unpack, pack-unpack, unpack-append, unpack-each, unpack-pack}
-pub use Rattle.event.specs.Limits.{jobs}
+pub use Rattle.event.specs.Limits.{jobs, most}
 pub use Rattle.event.specs.Refusals.{numberOf}
 pub use Rattle.event.specs.declared.refusal.Refusal.the-variants.{BitSet, UnknownVersion, UnsoundTable, WrongSize}
 pub use Rattle.rows.specs.InLine.{length-lined-le, line-below}

@@ -1,5 +1,5 @@
 -- A sound table has one file, and reading that file gives the table.
-use Rattle.file.specs.Prelude.{BitSet, Bool, Bytes, List, Table, UnknownVersion, UnsoundTable, WrongSize, [], _&&_, _*_, _++_, _+_, _-_, _<_, _↔_, _∙_, _∷_, _≡_, _≤_, acceptance-tells, and-false, and-left, and-right, any, ap, arith, below-drop, case, clear, drop, drop-at, eq-eqb, eqb, eqb-true, false, fine, first, idle, jobs, le-ltb, length, length-drop, length-lined-le, length-map, length-pack, length-replicate, line, ltb, map, none-above, not, not-false, numberOf, or-clear, outcome-is, pack, past, refl, refused, replicate, rowOf, sound, suc, sym, table-sound, take-append-drop, this, true, zero, ℕ}
+use Rattle.file.specs.Prelude.{BitSet, Bool, Bytes, List, Row, Table, UnknownVersion, UnsoundTable, WrongSize, [], _&&_, _*_, _++_, _+_, _-_, _<_, _↔_, _∙_, _∷_, _≡_, _≤_, acceptance-tells, and-false, and-left, and-right, any, ap, arith, below-drop, case, clear, drop, drop-at, eq-eqb, eqb, eqb-true, false, fine, first, idle, jobs, le-ltb, length, length-drop, length-lined-le, length-map, length-pack, length-replicate, line, ltb, map, none-above, not, not-false, numberOf, or-clear, outcome-is, pack, past, refl, refused, replicate, rowOf, sound, suc, sym, table-sound, take-append-drop, this, true, zero, ℕ}
 use Rattle.laws.specs.Chains.{none as nothing}
 use Rattle.file.specs.File.{ascend, bitSet, file, fileRows, good, headBytes, headIn, headOf, headOrder, headSize, headWidths, known, once, placed, readCases, rowOrder, rowSize, rowWidths, rowsBytes, rowsIn, rowsOf, sayRow, tableIn, tableRead, version, wrongSize}
 use Rattle.file.specs.FieldsIn.{head-order, row-order}
@@ -9,17 +9,18 @@ use Rattle.file.specs.Placing.{fits}
 use Rattle.file.specs.PlacingLaws.{fits-all, rows-jobs}
 use Rattle.file.specs.SoundLaws.{head-fits-sound, placed-whole, rows-fit-sound, rows-in-order}
 use Rattle.file.specs.declared.format.FileHead.{FileHead}
-use Rattle.file.specs.declared.format.FileRow.{FileRow}
 
 -- ---- From a table to its file and back
 
 -- rows of a table have no bit set that must be 0
-zeros-said : (g : ℕ → FileRow) → ((j : ℕ) → g j .zero ≡ 0) → (js : List ℕ) → any (ltb 0) (map (λ f. f .zero) (map g js)) ≡ false
+zeros-said :
+    (rows : List Row) (js : List ℕ) → any (ltb 0) (map (λ f. f .zero) (map (λ j. sayRow j (rowOf rows j)) js)) ≡ false
 unfolding any
-zeros-said g zeros [] = refl
-zeros-said g zeros (j ∷ js) = rw (zeros j) (zeros-said g zeros js)
+zeros-said rows [] = refl
+zeros-said rows (j ∷ js) = zeros-said rows js
 
 module _ (t : Table) (long : length (t .rows) ≡ jobs) (ok : sound t ≡ true) where
+  -- its head, its rows and its table are those that were written
   head-is : headIn (file t) ≡ headOf t
   unfolding file
   head-is = head-back (headOf t) (rowsBytes (rowsOf t)) (head-fits-sound t ok long)
@@ -48,6 +49,7 @@ module _ (t : Table) (long : length (t .rows) ≡ jobs) (ok : sound t ≡ true) 
         rows = (ap (placed (replicate jobs idle)) rows-are ∙ placed-whole t long ok) i;
       }
 
+  -- it is as long as it says
   right-size : wrongSize (file t) ≡ false
   right-size =
       let size = file-length t in
@@ -61,7 +63,7 @@ module _ (t : Table) (long : length (t .rows) ≡ jobs) (ok : sound t ≡ true) 
   file-reads =
       let zeros : bitSet (file t) ≡ false =
       (λ i. any (ltb 0) (head-is i .zero ∷ map (λ f. f .zero) (rows-are i)))
-      ∙ zeros-said (λ j. sayRow j (rowOf (t .rows) j)) (λ j. refl) (line (t .rows)) in
+      ∙ zeros-said (t .rows) (line (t .rows)) in
       let is-good : good (file t) ≡ true =
       (λ i. ascend 0 (rows-are i) && once (rows-are i) && sound (table-is i)) ∙ rw (rows-in-order t ok) ok in
       let is-known : known (file t) ≡ true = ap (λ (h : FileHead). eqb (h .version) version) head-is in
@@ -70,7 +72,8 @@ module _ (t : Table) (long : length (t .rows) ≡ jobs) (ok : sound t ≡ true) 
 
 -- ---- From bytes to a table and back
 
-pub length-rows-in : (n : ℕ) (bs : List ℕ) → length (rowsIn n bs) ≡ n
+-- as many rows as asked for
+length-rows-in : (n : ℕ) (bs : List ℕ) → length (rowsIn n bs) ≡ n
 unfolding rowsIn
 length-rows-in zero bs = refl
 length-rows-in (suc n) bs = ap suc (length-rows-in n (drop rowSize bs))
@@ -87,6 +90,7 @@ rows-packed (suc n) bs bytes long =
     (λ i. here i ++ behind i) ∙ take-append-drop rowSize bs
 
 module _ (bs : List ℕ) (ordered : (ascend 0 (fileRows bs) && once (fileRows bs)) ≡ true) where
+  -- rows in order, of which no job has two, fit into an empty table
   rows-fit : fits 0 (replicate jobs idle) (fileRows bs) ≡ true
   rows-fit = fits-all (fileRows bs) (rows-jobs (headIn bs .count) (drop headSize bs)) ∙ ordered
 
@@ -104,6 +108,7 @@ module _ (bs : List ℕ) (ordered : (ascend 0 (fileRows bs) && once (fileRows bs
       omega (arith, rows-counted, length-lined-le rows (length rows))
 
 module _ (bs : List ℕ) (t : Table) (read : tableRead bs ≡ fine t) where
+  -- what was tested
   accepts : first (readCases bs) ≡ 0
   unfolding tableRead
   accepts = acceptance-tells {B = ℕ} (readCases bs) (tableIn bs) t read .0
@@ -151,6 +156,7 @@ module _ (bs : List ℕ) (t : Table) (read : tableRead bs ≡ fine t) where
   pub rows-at-most : headIn bs .count ≤ jobs
   rows-at-most = rows-few bs ordered
 
+  -- its head and its rows are those of the file
   head-again : headOf (tableIn bs) ≡ headIn bs
   unfolding tableIn
   head-again =
@@ -200,13 +206,13 @@ files-tell t u t-long u-long t-sound u-sound = (ap file, back)
 
 -- ---- More rows than jobs
 
--- where nothing else is refused, a file with more rows than there are jobs is no sound table
+-- where nothing is refused before, a file with more rows than there are jobs is refused as one of an unsound table
 pub too-many-rows :
     (bs : List ℕ) → jobs < headIn bs .count → wrongSize bs ≡ false → known bs ≡ true → bitSet bs ≡ false →
     tableRead bs ≡ refused (numberOf UnsoundTable)
 unfolding tableRead
 too-many-rows bs many size is-known zeros =
-    sym (outcome-is (tableIn bs) (past size (past (ap not is-known) (past zeros (this (ap not (go (ordered) refl)))))))
+    sym (outcome-is (tableIn bs) (past size (past (ap not is-known) (past zeros (this (ap not (go ordered refl)))))))
   where
     ordered : Bool
     ordered = ascend 0 (fileRows bs) && once (fileRows bs)

@@ -1,6 +1,6 @@
 -- What is written of a sound table: each number fits its field, the rows are in order and no job has two, and put into an
 -- empty table they make it whole.
-use Rattle.file.specs.Prelude.{Each, Fit, List, Rising, Row, Table, [], _&&_, _<_, _^_, _∙_, _∷_, _≡_, _≢_, _≤_, ahead, any, ap, arith, below, below-reads, decLt, each-cons, each-head, each-none, each-tail, eqb, ext-getD, false, getD-set-other, getD-set-same, idle, idle-rows, inside, inside-reads, inside-refl, jobs, length, length-lined-le, length-replicate, length-set, line, line-below, line-place, lt-ltb, ltb-true, map, ne-eqb, pow-mono, refl, replicate, rowIn, rowOf, set, sound, subst, sym, table-sound, true, walk-start, ℕ, ℕ-discrete}
+use Rattle.file.specs.Prelude.{Each, Fit, List, Rising, Row, Table, [], _&&_, _<_, _^_, _∙_, _∷_, _≡_, _≢_, _≤_, ahead, any, ap, arith, below, below-reads, decLt, each-cons, each-head, each-none, each-tail, eqb, ext-getD, false, getD-set-other, getD-set-same, idle, idle-rows, inside, inside-reads, inside-refl, jobs, length, length-lined-le, length-replicate, length-set, line, line-below, line-place, lt-ltb, ltb-true, map, most, ne-eqb, pow-mono, refl, replicate, rowIn, rowOf, set, sound, subst, sym, table-sound, true, walk-start, ℕ, ℕ-discrete}
 use Rattle.file.specs.File.{ascend, headOf, headOrder, headWidths, once, placed, rowsOf, sayRow}
 use Rattle.file.specs.PlacedLaws.{length-placed}
 use Rattle.file.specs.Placing.{Every, RowFits}
@@ -8,22 +8,24 @@ use Rattle.file.specs.declared.format.FileRow.{FileRow}
 
 -- ---- Each number fits
 
--- a part of a set below R is a word
-part-fits : (R s t : ℕ) → R ≤ 64 → below t R ≡ true → inside s t ≡ true → s < 2 ^ 64
+-- a set within one that lies within R has no more than 64 bits
+part-fits : (R s t : ℕ) → R ≤ most → below t R ≡ true → inside s t ≡ true → s < 2 ^ 64
 unfolding below
 part-fits R s t small low part =
     let each = below-reads s R .holds .1 (λ a has. below-reads t R .holds .0 low a (inside-reads s t .holds .0 part a has)) in
-    omega (arith, ltb-true s (2 ^ R) each, pow-mono {i = R} {j = 64} small)
+    omega (arith, ltb-true s (2 ^ R) each, pow-mono {i = R} {j = most} small)
 
 module _ (t : Table) (ok : sound t ≡ true) where
+  -- of the head
   pub head-fits-sound : length (t .rows) ≡ jobs → Fit (headOrder headWidths) (headOrder (headOf t))
   head-fits-sound long =
       let p = table-sound t ok in
       let count = length-lined-le (t .rows) (length (t .rows)) in
       omega (arith, p .ranges .tokens .1, p .ranges .resources .1, p .ranges .limit .1, p .time, p .last)
 
+  -- of the row of any job, idle or live
   row-fits-sound : (j : ℕ) → j < jobs → RowFits (sayRow j (rowIn t j))
-  row-fits-sound j below = go (decLt 0 (rowIn t j .turn .0))
+  row-fits-sound j within = go (decLt 0 (rowIn t j .turn .0))
     where
       go : Dec (0 < rowIn t j .turn .0) → RowFits (sayRow j (rowIn t j))
       go (yes alive) =
@@ -45,6 +47,7 @@ module _ (t : Table) (ok : sound t ≡ true) where
           let zeros = table-sound t ok .rows j .idles (omega arith) in
           subst (λ (r : Row). RowFits (sayRow j r)) (sym zeros) (omega arith)
 
+  -- so of all rows that are written
   pub rows-fit-sound : length (t .rows) ≡ jobs → Every RowFits (rowsOf t)
   rows-fit-sound long = each (line (t .rows)) (line-below (t .rows))
     where
@@ -76,6 +79,7 @@ module _ (rows : List Row) where
       let other : ¬ (j ≡ k) = λ e. omega (arith, rises .0, ap (λ (i : ℕ). rowOf rows i .turn .0) e) in
       rw (ne-eqb j k other) (rising-lacks (rowOf rows k .turn .0) l (rises .1) j (omega (arith, rises .0)))
 
+  -- so none of them comes twice
   rising-once : (m : ℕ) (l : List ℕ) → Rising rows m l → once (said l) ≡ true
   unfolding Rising once
   rising-once m [] rises = refl
@@ -91,7 +95,7 @@ rows-in-order t ok =
 
 -- ---- The rows of a table, put into an empty one
 
--- rows of another table, put into rows that differ from it only there, make them the same
+-- rows that differ from those of a whole table only in these jobs become the same when these are put in
 placed-same :
     (whole rows : List Row) (js : List ℕ) → Each (λ k. k < length rows) js →
     ((j : ℕ) → Each (λ k. k ≢ j) js → rowOf rows j ≡ rowOf whole j) → (j : ℕ) →
