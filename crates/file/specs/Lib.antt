@@ -7,3 +7,6 @@ pub mod Placing
 pub mod PlacingLaws
 pub mod Prelude
 pub mod Promises
+pub mod RoundTrip
+pub mod SoundLaws
+pub mod Worked

@@ -20,6 +20,12 @@ fits-one n rows f fs ok =
       and-right (ltb n (f .turn) && free rows f) rest ok,
     )
 
+-- as many rows as before
+pub length-placed : (rows : List Row) (fs : List FileRow) → length (placed rows fs) ≡ length rows
+unfolding placed
+length-placed rows [] = refl
+length-placed rows (f ∷ fs) = length-placed (set rows (f .job) (rowSaid f)) fs ∙ length-set rows (f .job) (rowSaid f)
+
 -- what was live before stays as it is
 placed-keeps :
     (n : ℕ) (rows : List Row) (fs : List FileRow) → fits n rows fs ≡ true → (j : ℕ) → 0 < rowOf rows j .turn .0 →
@@ -66,6 +72,7 @@ module _ (n : ℕ) (rows : List Row) (f : FileRow) (fs : List FileRow) (up : UpT
   abbrev next : List Row
   next = set rows (f .job) (rowSaid f)
 
+  -- what fits-one says of this row, and that its job was idle
   above : n < f .turn
   above = fits-one n rows f fs ok .0
 
@@ -86,6 +93,7 @@ module _ (n : ℕ) (rows : List Row) (f : FileRow) (fs : List FileRow) (up : UpT
       set-set rows (f .job) (rowSaid f) idle ∙ ap (set rows (f .job)) (sym was) ∙ set-getD rows (f .job) idle in
       line-joined rows (f .job) (rowSaid f) within apart back (omega (arith, above)) (up .behind (f .turn) above)
 
+  -- behind it comes every turn higher than its own
   behind-next : (m : ℕ) → f .turn < m → ahead next m ≡ length (line next)
   behind-next m higher =
       omega (
@@ -98,6 +106,7 @@ module _ (n : ℕ) (rows : List Row) (f : FileRow) (fs : List FileRow) (up : UpT
         length-append (line rows) (f .job ∷ []),
       )
 
+  -- so the next row finds what this one found
   up-next : UpTo (f .turn) next
   up-next =
       record {
@@ -125,6 +134,7 @@ line-behind n rows (f ∷ fs) up below ok =
 
 -- ---- Put into an empty table
 
+-- a table without requests has given no turn
 empty-up : UpTo 0 (replicate jobs idle)
 unfolding ahead count lined under
 empty-up =

@@ -6,17 +6,26 @@ use mathlib.Core.Path.{_≡_}
 use lib.Dec.{ltb}
 use lib.ListN.{length, set}
 use Rattle.event.specs.Limits.{jobs}
+use Rattle.fields.specs.Fields.{Fit}
 use Rattle.rows.specs.Line.{line, rowOf}
 use Rattle.rows.specs.Order.{ahead, idle, live}
 use Rattle.rows.specs.Propositions.{Distinct}
 use Rattle.rows.specs.declared.row.Row.{Row}
-use Rattle.file.specs.File.{rowSaid}
+use Rattle.file.specs.File.{rowOrder, rowSaid, rowWidths}
 use Rattle.file.specs.declared.format.FileRow.{FileRow}
+
+-- P holds of every row
+abbrev pub Every : (FileRow → Type 0) → List FileRow → Type 0
+Every P [] = Unit {0}
+Every P (f ∷ fs) = P f × Every P fs
+
+-- each value of a row fits its field
+abbrev pub RowFits : FileRow → Type 0
+RowFits f = Fit (rowOrder rowWidths) (rowOrder f)
 
 -- every row is of a job that there is
 abbrev pub JobsBelow : List FileRow → Type 0
-JobsBelow [] = Unit {0}
-JobsBelow (f ∷ fs) = (f .job < jobs) × JobsBelow fs
+JobsBelow = Every (λ f. f .job < jobs)
 
 -- its job has no live row among these
 abbrev pub free : List Row → FileRow → Bool
@@ -27,7 +36,8 @@ unfoldable pub fits : ℕ → List Row → List FileRow → Bool
 fits n rows [] = true
 fits n rows (f ∷ fs) = ltb n (f .turn) && free rows f && fits (f .turn) (set rows (f .job) (rowSaid f)) fs
 
--- The rows of a table into which rows of turns above n can be put: no turn is above n, so whoever comes stands behind all.
+-- The rows of a table that has given no turn above n: idle rows are zero, no two turns are alike, and before any higher
+-- turn stand all who are in line.
 pub record UpTo (n : ℕ) (rows : List Row) : Type 0 where
   pub long : length rows ≡ jobs
   pub given : (j : ℕ) → rowOf rows j .turn .0 ≤ n

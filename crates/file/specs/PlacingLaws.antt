@@ -41,6 +41,7 @@ module _ (rows : List Row) (f : FileRow) (within : f .job < length rows) (alive 
       go (no e) =
           rw (getD-set-other rows (f .job) (g .job) (rowSaid f) idle e, ne-eqb (f .job) (g .job) (λ same. e (sym same)))
 
+  -- so all are free that were, if that job is not among them
   all-free-set :
       (gs : List FileRow) →
       all (free (set rows (f .job) (rowSaid f))) gs ≡ (not (any (λ g. eqb (f .job) (g .job)) gs) && all (free rows) gs)
@@ -55,6 +56,7 @@ module _ (rows : List Row) (f : FileRow) (within : f .job < length rows) (alive 
       each false b true d = and-false b
       each false b false d = refl
 
+-- the same tests in another order
 regroup : (a b c d e : Bool) → (a && (b && (c && (d && e)))) ≡ (b && ((d && c) && (a && e)))
 regroup true b true true e = refl
 regroup true b true false e = refl
