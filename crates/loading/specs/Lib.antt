@@ -1,0 +1,6 @@
+-- What loading means, and what the contracts of this crate say.
+pub mod LoadingLaws
+pub mod Meaning
+pub mod Prelude
+pub mod Promises
+pub mod Taking
