@@ -158,10 +158,11 @@ uint32_t norakkeun_record_ask(uint32_t job, norakkeun_tick tick, uint64_t set, u
 uint32_t norakkeun_record_release(uint32_t job, norakkeun_tick tick, uint64_t set, uint8_t *room, size_t length);
 uint32_t norakkeun_record_complete(uint32_t job, norakkeun_tick tick, uint8_t *room, size_t length);
 
-/* The table's service file at the front of the lent room; later bytes keep what they had. */
+/* The table's service file at the front of the lent room; later bytes keep what they had. Refused as 3, then 21, and the
+ * room is as before. */
 norakkeun_saved norakkeun_save(norakkeun_table table, uint8_t *room, size_t length);
 
-/* The table of a service file. Says done; a refused load gives the all-zero table, which is not sound. */
+/* The table of a service file. Says done; refused as 21, 22, 19, then 3, it gives the all-zero table, which is not sound. */
 norakkeun_told norakkeun_load(const uint8_t *file, size_t length);
 
 #ifdef __cplusplus

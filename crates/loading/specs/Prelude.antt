@@ -24,6 +24,7 @@ pub use Rattle.rows.specs.declared.row.Row.{Row}
 pub use Rattle.soundness.specs.Beside.{soundBy}
 pub use Rattle.soundness.specs.declared.Bounds.{Bounds}
 pub use Rattle.arbiter.specs.Answers.{saidOf, saysDone}
+pub use Rattle.arbiter.specs.Determined.{same-next}
 pub use Rattle.arbiter.specs.Meaning.{noTable}
 pub use Rattle.arbiter.specs.Sound.{sound}
 pub use Rattle.arbiter.specs.declared.table.Next.{Next}

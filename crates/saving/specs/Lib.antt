@@ -1,4 +1,5 @@
 -- What saving means, and what the contracts of this crate say.
+pub mod Determined
 pub mod Meaning
 pub mod Prelude
 pub mod Promises

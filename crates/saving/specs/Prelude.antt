@@ -10,13 +10,16 @@ pub use borrow.Author.Needs.{needs}
 pub use borrow.Author.Tests.{le-ltb, lt-ltb, not-false, not-true}
 pub use lib.ListN.{drop, drop-of-length-le, getD, length, length-drop, take}
 pub use lib.Seq.{drop-cons, drop-drop, length-take-le, take-all}
-unfoldable pub use Rattle.laws.specs.Front.{laid, over}
-pub use Rattle.laws.specs.FrontLaws.{laid-front, laid-laid, laid-none, length-laid}
-pub use Rattle.fields.specs.PackingLaws.{length-pack}
 pub use Rattle.laws.specs.CaseLaws.{leaves-is, outcome-is}
 pub use Rattle.laws.specs.Cases.{fine, keepUnless, unless}
 pub use Rattle.laws.specs.Chains.{First, past, this}
+pub use Rattle.laws.specs.Determined.{determined, told-apart}
+unfoldable pub use Rattle.laws.specs.Front.{laid, over}
+pub use Rattle.laws.specs.FrontLaws.{laid-front, laid-laid, laid-none, length-laid}
+pub use Rattle.fields.specs.PackingLaws.{length-pack}
+pub use Rattle.event.specs.Answers.{answerBy}
 pub use Rattle.event.specs.Limits.{jobs}
+pub use Rattle.event.specs.RefusalLaws.{refusalOf-numberOf}
 pub use Rattle.rows.specs.Line.{rowOf}
 pub use Rattle.rows.specs.declared.row.Row.{Row}
 pub use Rattle.soundness.specs.Beside.{soundBy}

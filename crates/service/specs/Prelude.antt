@@ -44,11 +44,11 @@ pub use Rattle.rows.specs.OrderLaws.{ahead-set}
 pub use Rattle.rows.specs.Propositions.{Distinct, Each}
 pub use Rattle.rows.specs.Turns.{at-set, distinct-set, turn-earlier}
 pub use Rattle.rows.specs.declared.row.Row.{Row}
-unfoldable pub use Rattle.sweep.specs.Walking.{Rising}
-pub use Rattle.sweep.specs.WalkingLaws.{walk-start}
-pub use Rattle.upkeep.specs.UpkeepLaws.{line-joined, line-place}
 pub use Rattle.arbiter.specs.Sound.{rowIn}
 unfoldable pub use Rattle.arbiter.specs.Sound.{sound}
 pub use Rattle.arbiter.specs.declared.table.Table.{Table}
 pub use Rattle.kept.specs.Sound.Tests.{table-sound}
 pub use Rattle.kept.specs.Soundness.{idle-rows}
+pub use Rattle.upkeep.specs.UpkeepLaws.{line-joined, line-place}
+unfoldable pub use Rattle.sweep.specs.Walking.{Rising}
+pub use Rattle.sweep.specs.WalkingLaws.{walk-start}
