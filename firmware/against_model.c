@@ -1,9 +1,10 @@
-/* Answers as the programs replay and probe do, by calls through the header and the archive, so that .ci/compare can hold
- * the linked library to the independent model:
+/* Answers as the programs replay and probe do, and loads and saves service files, by calls through the header and the
+ * archive, so that .ci/compare can hold the linked library to the independent model:
  *
- *     against_model replay <recording     against_model probe <cases
+ *     against_model replay <recording     against_model probe <cases     against_model service <service-cases
  *
- * It has its own reading of records and of cases. Each good record is also written anew and must give the same bytes. */
+ * It has its own reading of records and of cases. Each good record is also written anew, and each accepted file saved
+ * anew, and must give the same bytes. */
 #include <inttypes.h>
 #include <stdio.h>
 #include <stdlib.h>
@@ -19,10 +20,14 @@ typedef char told_is_16_bytes_and_a_table[sizeof(norakkeun_told) == 16 + sizeof(
 typedef char told_table_is_at_16[offsetof(norakkeun_told, table) == 16 ? 1 : -1];
 typedef char job_report_is_32_bytes[sizeof(norakkeun_job_report) == 32 ? 1 : -1];
 typedef char late_jobs_is_8_bytes[sizeof(norakkeun_late_jobs) == 8 ? 1 : -1];
+typedef char saved_is_8_bytes[sizeof(norakkeun_saved) == 8 ? 1 : -1];
 
 /* The calls by their numbers in a case. In a record the events have the same numbers, and a start has 5. */
 enum { BEAT, OPEN, ASK, RELEASE, COMPLETE, REPORT, OVERDUE, START, WRITE_BEAT, WRITE_START = 13 };
-enum { START_RECORD = 5, CASE_BYTES = 41 + 40 * NORAKKEUN_JOBS, LONGEST_LIST = 65535 };
+enum { START_RECORD = 5, TABLE_BYTES = 22 + 40 * NORAKKEUN_JOBS, CASE_BYTES = 19 + TABLE_BYTES, LONGEST_LIST = 65535 };
+
+/* The first byte of a service case. */
+enum { LOAD, SAVE };
 
 /* What is handed to a call. A start takes its numbers from the table. */
 typedef struct call {
@@ -105,29 +110,36 @@ static uint32_t decode(const uint8_t *bytes, size_t length, call *c)
     return zero == 0 ? NORAKKEUN_ACCEPTED : NORAKKEUN_BIT_SET;
 }
 
-/* Takes a case apart; gives the length of the list that it lends. */
-static size_t decode_case(const uint8_t *bytes, call *c)
+static void decode_table(const uint8_t *bytes, norakkeun_table *table)
 {
-    size_t at = 0, length;
+    size_t at = 0;
     norakkeun_row *row;
 
-    c->number = take(bytes, &at, 8);
-    c->job = (uint32_t)take(bytes, &at, 32);
-    c->tick.count = (uint32_t)take(bytes, &at, 32);
-    c->set = take(bytes, &at, 64);
-    length = take(bytes, &at, 16);
-    c->table.tokens = (uint32_t)take(bytes, &at, 8);
-    c->table.resources = (uint32_t)take(bytes, &at, 8);
-    c->table.limit = (uint32_t)take(bytes, &at, 32);
-    c->table.time = take(bytes, &at, 64);
-    c->table.last.place = take(bytes, &at, 64);
-    for (row = c->table.rows; row < c->table.rows + NORAKKEUN_JOBS; row++) {
+    table->tokens = (uint32_t)take(bytes, &at, 8);
+    table->resources = (uint32_t)take(bytes, &at, 8);
+    table->limit = (uint32_t)take(bytes, &at, 32);
+    table->time = take(bytes, &at, 64);
+    table->last.place = take(bytes, &at, 64);
+    for (row = table->rows; row < table->rows + NORAKKEUN_JOBS; row++) {
         row->turn.place = take(bytes, &at, 64);
         row->declared = take(bytes, &at, 64);
         row->held = take(bytes, &at, 64);
         row->asked = take(bytes, &at, 64);
         row->since = take(bytes, &at, 64);
     }
+}
+
+/* Takes a case apart; gives the length of the list that it lends. */
+static size_t decode_case(const uint8_t *bytes, call *c)
+{
+    size_t at = 0, length;
+
+    c->number = take(bytes, &at, 8);
+    c->job = (uint32_t)take(bytes, &at, 32);
+    c->tick.count = (uint32_t)take(bytes, &at, 32);
+    c->set = take(bytes, &at, 64);
+    length = take(bytes, &at, 16);
+    decode_table(bytes + at / 8, &c->table);
     return length;
 }
 
@@ -307,22 +319,101 @@ static void answer(call c, uint8_t *list, size_t length)
     print_table(c.table);
 }
 
+/* What stands in a list or room before it is lent. */
+static void fill(uint8_t *list, size_t length)
+{
+    size_t i;
+
+    for (i = 0; i < length; i++) {
+        list[i] = (uint8_t)(7 * i + 3);
+    }
+}
+
 static void probe(void)
 {
     static uint8_t bytes[CASE_BYTES], list[LONGEST_LIST];
     unsigned long number = 0;
-    size_t i, length;
+    size_t length;
     call c;
 
     while ((length = fread(bytes, 1, sizeof bytes, stdin)) == sizeof bytes && bytes[0] <= WRITE_START) {
         length = decode_case(bytes, &c);
-        for (i = 0; i < length; i++) {
-            list[i] = (uint8_t)(7 * i + 3);
-        }
+        fill(list, length);
         printf("%lu ", ++number);
         answer(c, list, length);
     }
     if (length > 0) {
+        printf("cut\n");
+    }
+}
+
+/* ---- service */
+
+static void must_save_the_same(norakkeun_table table, const uint8_t *file, size_t length)
+{
+    static uint8_t room[LONGEST_LIST];
+    norakkeun_saved saved;
+
+    fill(room, length);
+    saved = norakkeun_save(table, room, length);
+    if (saved.refusal != NORAKKEUN_ACCEPTED || saved.length != length || memcmp(room, file, length) != 0) {
+        fprintf(stderr, "against_model: a file was not saved again as it was loaded\n");
+        exit(1);
+    }
+}
+
+static void load(const uint8_t *file, size_t length)
+{
+    norakkeun_told told = norakkeun_load(file, length);
+
+    print_event(told);
+    print_table(told.table);
+    if (told.refusal == NORAKKEUN_ACCEPTED) {
+        must_save_the_same(told.table, file, length);
+    }
+}
+
+static void save(const uint8_t *bytes, size_t length)
+{
+    static uint8_t room[LONGEST_LIST];
+    norakkeun_table table;
+    norakkeun_saved saved;
+
+    decode_table(bytes, &table);
+    fill(room, length);
+    saved = norakkeun_save(table, room, length);
+    if (saved.refusal == NORAKKEUN_ACCEPTED) {
+        printf("saved");
+    } else {
+        printf("no %" PRIu32, saved.refusal);
+    }
+    if (saved.refusal == NORAKKEUN_ACCEPTED || saved.length != 0) {
+        printf(" %" PRIu32, saved.length);
+    }
+    printf("\n");
+    print_list(room, length);
+}
+
+static void service(void)
+{
+    static uint8_t head[3], rest[LONGEST_LIST];
+    unsigned long number = 0;
+    size_t got, length, wanted;
+
+    while ((got = fread(head, 1, sizeof head, stdin)) == sizeof head && head[0] <= SAVE) {
+        length = (size_t)head[1] * 256 + head[2];
+        wanted = head[0] == LOAD ? length : TABLE_BYTES;
+        if (fread(rest, 1, wanted, stdin) < wanted) {
+            break;
+        }
+        printf("%lu ", ++number);
+        if (head[0] == LOAD) {
+            load(rest, length);
+        } else {
+            save(rest, length);
+        }
+    }
+    if (got > 0) {
         printf("cut\n");
     }
 }
@@ -333,8 +424,10 @@ int main(int argc, char **argv)
         replay();
     } else if (argc == 2 && strcmp(argv[1], "probe") == 0) {
         probe();
+    } else if (argc == 2 && strcmp(argv[1], "service") == 0) {
+        service();
     } else {
-        fprintf(stderr, "usage: against_model replay|probe\n");
+        fprintf(stderr, "usage: against_model replay|probe|service\n");
         return 2;
     }
     return ferror(stdin) || fflush(stdout) != 0 ? 2 : 0;

@@ -40,7 +40,7 @@ $1 == "compared" { compared[++compared_count] = $2 OFS $3 OFS $4 OFS $5 OFS $6 }
 $1 == "found" { found[$2] = $3 }
 $1 == "ran" { ran[$2] = $3 }
 $1 == "firmware" { firmware[++firmware_lines] = $2 }
-$1 ~ /^(seed|alike|breaks|trial|verdict|last)$/ { gate[$1] = $2 }
+$1 ~ /^(seed|alike|desk|breaks|trial|verdict|last)$/ { gate[$1] = $2 }
 $1 == "verdict" && $2 !~ /, 0 failed$/ { why("the output says: " $2); failed = 1 }
 $1 == "model" { gate["model"] = (gate["model"] == "" ? "" : gate["model"] " | ") $2 }
 
@@ -84,6 +84,7 @@ function look_at_comparisons(    i, unsaid) {
     if (gate["model"] == "") why("the model's own tests: the output says nothing of them")
     else if (gate["model"] !~ /[1-9][0-9]* passed/) why("the model's own tests: none passed")
     if (!("alike" in gate)) why("the comparison with the model: the output does not say that it came to its end")
+    if (!("desk" in gate)) why("the comparison of the desk program with the model (.ci/compare-desk): the output does not say that it came to its end")
     if (!("breaks" in gate)) why("the comparison's own trial (.ci/compare-breaks): the output does not say that it came to its end")
     for (i = 1; i <= break_count; i++) if (!(breaks[i] in found)) unsaid++
     if (unsaid) why("broken rules of the model: the output does not say that " unsaid " of " break_count " were found (MISSING in their table)")
@@ -255,6 +256,7 @@ function show_comparisons(    i) {
         if (tree["program " crates[i]]) print "row", "program " crates[i], at(wrote, crates[i], "MISSING")
     print "row", "model's own tests", at(gate, "model", "MISSING")
     print "row", "programs and model", at(gate, "alike", "MISSING")
+    print "row", "desk and model", at(gate, "desk", "MISSING")
     print "row", "seed", at(gate, "seed", "MISSING")
     print "row", "broken rules", at(gate, "breaks", "MISSING")
     for (i = 1; i <= firmware_lines; i++) print "row", "firmware examples", firmware[i]

@@ -14,8 +14,9 @@ extern "C" {
 #endif
 
 enum {
-    NORAKKEUN_JOBS = 64,  /* jobs 0 to 63, and so the shortest list that may be lent */
-    NORAKKEUN_RECORD = 14 /* bytes of a record */
+    NORAKKEUN_JOBS = 64,          /* jobs 0 to 63, and so the shortest list that may be lent */
+    NORAKKEUN_RECORD = 14,        /* bytes of a record */
+    NORAKKEUN_LONGEST_FILE = 2647 /* bytes of the service file of a table with 64 live rows */
 };
 
 /* What an accepted event is told. */
@@ -50,7 +51,9 @@ enum {
     NORAKKEUN_WRONG_LENGTH = 17,    /* writing: room under 14 bytes */
     NORAKKEUN_UNKNOWN_KIND = 18,    /* a replay only: kind 6 or 7 */
     NORAKKEUN_BIT_SET = 19,         /* a replay only: a bit that must be 0 is 1 */
-    NORAKKEUN_START_OUT_OF_PLACE = 20 /* a replay only: start not first, or first not start */
+    NORAKKEUN_START_OUT_OF_PLACE = 20, /* a replay only: start not first, or first not start */
+    NORAKKEUN_WRONG_SIZE = 21,      /* load: a service file of the wrong length; save: no room for it */
+    NORAKKEUN_UNKNOWN_VERSION = 22  /* load: a service file of a version other than 1 */
 };
 
 /* The drive's millisecond counter: 32 bits, 0 after 4294967295. A struct, so that no turn can stand in its place. */
@@ -111,6 +114,12 @@ typedef struct norakkeun_late_jobs {
     uint32_t count;
 } norakkeun_late_jobs;
 
+/* How many bytes at the front of the lent room are the file; with a refusal, 0. */
+typedef struct norakkeun_saved {
+    uint32_t refusal;
+    uint32_t length;
+} norakkeun_saved;
+
 /* The first table: all rows idle, true time is the tick. A refused start gives the all-zero table, which is not sound. */
 norakkeun_told norakkeun_start(uint32_t tokens, uint32_t resources, norakkeun_tick tick, uint32_t limit);
 
@@ -147,6 +156,12 @@ uint32_t norakkeun_record_open(uint32_t job, norakkeun_tick tick, uint64_t set, 
 uint32_t norakkeun_record_ask(uint32_t job, norakkeun_tick tick, uint64_t set, uint8_t *room, size_t length);
 uint32_t norakkeun_record_release(uint32_t job, norakkeun_tick tick, uint64_t set, uint8_t *room, size_t length);
 uint32_t norakkeun_record_complete(uint32_t job, norakkeun_tick tick, uint8_t *room, size_t length);
+
+/* The table's service file at the front of the lent room; later bytes keep what they had. */
+norakkeun_saved norakkeun_save(norakkeun_table table, uint8_t *room, size_t length);
+
+/* The table of a service file. Says done; a refused load gives the all-zero table, which is not sound. */
+norakkeun_told norakkeun_load(const uint8_t *file, size_t length);
 
 #ifdef __cplusplus
 }

@@ -3,15 +3,17 @@
 use crate::table::{Row, Table, JOBS};
 use std::fmt;
 
-/// Bytes before the rows: those of a call, job, tick, set and room, and the table's
-/// own numbers.
-const HEAD: usize = 1 + 4 + 4 + 8 + 2 + 1 + 1 + 4 + 8 + 8;
+/// Bytes before the table: those of a call, job, tick, set and room.
+const HEAD: usize = 1 + 4 + 4 + 8 + 2;
 
 /// Bytes of a row: five numbers.
 const ROW: usize = 5 * 8;
 
+/// Bytes of a table: its own numbers and its rows.
+pub const TABLE: usize = 1 + 1 + 4 + 8 + 8 + ROW * JOBS;
+
 /// Bytes of a case.
-pub const CASE: usize = HEAD + ROW * JOBS;
+pub const CASE: usize = HEAD + TABLE;
 
 #[derive(Clone, Copy, Debug, PartialEq, Eq)]
 pub enum Call {
@@ -136,17 +138,26 @@ impl Case {
         bytes.extend(self.tick.to_be_bytes());
         bytes.extend(self.set.to_be_bytes());
         bytes.extend(self.room.to_be_bytes());
-        bytes.extend([self.table.tokens, self.table.resources]);
-        bytes.extend(self.table.limit.to_be_bytes());
-        bytes.extend(self.table.time.to_be_bytes());
-        bytes.extend(self.table.last_turn.to_be_bytes());
-        for row in &self.table.rows {
-            for number in [row.turn, row.declared, row.held, row.asked, row.since] {
-                bytes.extend(number.to_be_bytes());
-            }
-        }
+        bytes.extend(table_to_bytes(&self.table));
         bytes
     }
+}
+
+pub fn table_to_bytes(table: &Table) -> Vec<u8> {
+    let mut bytes = vec![table.tokens, table.resources];
+    bytes.extend(table.limit.to_be_bytes());
+    bytes.extend(table.time.to_be_bytes());
+    bytes.extend(table.last_turn.to_be_bytes());
+    for row in &table.rows {
+        for number in [row.turn, row.declared, row.held, row.asked, row.since] {
+            bytes.extend(number.to_be_bytes());
+        }
+    }
+    bytes
+}
+
+pub fn table_from_bytes(bytes: &[u8; TABLE]) -> Table {
+    table_from(&mut Bytes(bytes))
 }
 
 fn table_from(bytes: &mut Bytes) -> Table {

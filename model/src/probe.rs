@@ -7,14 +7,14 @@ use crate::table::{Row, Table};
 use std::io::{self, Read, Write};
 
 /// The next piece of a row of cases.
-pub enum Next {
-    Case(Box<Case>),
+pub enum Next<C> {
+    Case(Box<C>),
     /// Too short, or of a call that doesn't exist.
     Cut,
     End,
 }
 
-pub fn next_case(input: &mut impl Read) -> io::Result<Next> {
+pub fn next_case(input: &mut impl Read) -> io::Result<Next<Case>> {
     let bytes = piece(input, CASE)?;
     if bytes.is_empty() {
         return Ok(Next::End);
@@ -42,11 +42,7 @@ pub fn run(mut input: impl Read, mut out: impl Write) -> io::Result<()> {
 pub fn print(out: &mut impl Write, number: u64, call: Call, outcome: &Outcome) -> io::Result<()> {
     writeln!(out, "{number} {}", outcome.answer)?;
     if call.has_list() {
-        write!(out, "list")?;
-        for entry in &outcome.list {
-            write!(out, " {entry}")?;
-        }
-        writeln!(out)?;
+        print_list(out, &outcome.list)?;
     }
     if !call.writes() {
         print_table(out, &outcome.table)?;
@@ -54,7 +50,15 @@ pub fn print(out: &mut impl Write, number: u64, call: Call, outcome: &Outcome) -
     Ok(())
 }
 
-fn print_table(out: &mut impl Write, table: &Table) -> io::Result<()> {
+pub fn print_list(out: &mut impl Write, list: &[u8]) -> io::Result<()> {
+    write!(out, "list")?;
+    for entry in list {
+        write!(out, " {entry}")?;
+    }
+    writeln!(out)
+}
+
+pub fn print_table(out: &mut impl Write, table: &Table) -> io::Result<()> {
     write!(out, "table {} {}", table.tokens, table.resources)?;
     write!(out, " {} {} {}", table.limit, table.time, table.last_turn)?;
     for (job, row) in table.rows.iter().enumerate() {

@@ -68,13 +68,26 @@ fn count(random: &mut Random) -> u8 {
 
 /// A sound table of any kind, events lead to it or not.
 pub fn built(random: &mut Random) -> Table {
-    let mut table = fresh(random);
-    table.time = random.any_length().min(TOP);
+    let table = fresh(random);
     let most = random.pick(&[3, 8, JOBS as u64]);
+    let requests = 1 + random.below(most);
+    filled(random, table, requests)
+}
+
+/// A sound table with so many tokens, resources and requests.
+pub fn built_of(random: &mut Random, tokens: u8, resources: u8, requests: u64) -> Table {
+    let mut table = fresh(random);
+    table.tokens = tokens;
+    table.resources = resources;
+    filled(random, table, requests)
+}
+
+fn filled(random: &mut Random, mut table: Table, requests: u64) -> Table {
+    table.time = random.any_length().min(TOP);
     let gap = random.pick(&[1, 3, 1 << 40]);
     let mut idle: Set = (0..JOBS as u8).collect();
     let mut declared_ahead = Set::new();
-    for place in 0..=random.below(most) {
+    for place in 0..requests {
         let job = random.member(&idle).expect("no more requests than jobs");
         idle.remove(&job);
         table.last_turn += 1 + random.below(gap);

@@ -14,20 +14,20 @@ use std::io::{self, Write};
 
 /// How often each thing was met.
 #[derive(Default)]
-struct Tally(BTreeMap<String, u64>);
+pub struct Tally(BTreeMap<String, u64>);
 
 impl Tally {
-    fn count(&mut self, what: String) {
+    pub fn count(&mut self, what: String) {
         *self.0.entry(what).or_default() += 1;
     }
 
-    fn of(&self, what: &str) -> u64 {
+    pub fn of(&self, what: &str) -> u64 {
         self.0.get(what).copied().unwrap_or(0)
     }
 
     /// Prints the counts of all that was to be met, then what never was and what
     /// should not have been. True if there is neither.
-    fn print(&self, expected: &[String], mut out: impl Write) -> io::Result<bool> {
+    pub fn print(&self, expected: &[String], mut out: impl Write) -> io::Result<bool> {
         let mut missing = Vec::new();
         for what in expected {
             let count = self.of(what);

@@ -1,5 +1,5 @@
 -- What bytes hold, field by field: named and put in order again, the fields are what was unpacked.
-use Rattle.file.specs.Prelude.{Fit, List, _++_, _≡_, _≤_, _∙_, ap, append-nil, arith, drop, drop-of-length-le, fit-unpack, length, length-unpack, over, subst, sym, unpack, unpack-each, ℕ}
+use Rattle.file.specs.Prelude.{Fit, List, _++_, _≡_, _≤_, _∙_, ap, append-nil, arith, drop-of-length-le, fit-unpack, length, length-unpack, over, subst, sym, unpack, unpack-each, ℕ}
 use Rattle.file.specs.File.{headIn, headNamed, headOrder, headWidths, rowIn, rowNamed, rowOrder, rowWidths}
 use Rattle.file.specs.Promises.{ReadHead, ReadRow}
 use Rattle.file.specs.declared.format.FileHead.{FileHead}

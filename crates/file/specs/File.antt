@@ -113,9 +113,13 @@ rowSaid f =
 
 -- ---- Writing
 
+-- the rows of these jobs
+abbrev pub rowsSaid : List Row → List ℕ → List FileRow
+rowsSaid rows js = map (λ j. sayRow j (rowOf rows j)) js
+
 -- the live rows of a table, in order of turn
 abbrev pub rowsOf : Table → List FileRow
-rowsOf t = map (λ j. sayRow j (rowOf (t .rows) j)) (line (t .rows))
+rowsOf t = rowsSaid (t .rows) (line (t .rows))
 
 -- the bytes of a head
 abbrev pub headBytes : FileHead → List ℕ
@@ -165,17 +169,21 @@ unfoldable pub placed : List Row → List FileRow → List Row
 placed rows [] = rows
 placed rows (f ∷ fs) = placed (set rows (f .job) (rowSaid f)) fs
 
--- the table in a file
-unfoldable pub tableIn : List ℕ → Table
-tableIn bs =
+-- the table of a head and rows
+abbrev pub tableOf : FileHead → List Row → Table
+tableOf h rows =
     record {
-      tokens = headIn bs .tokens + 1;
-      resources = headIn bs .resources + 1;
-      limit = headIn bs .limit;
-      time = headIn bs .time;
-      last = record { 0 = headIn bs .last };
-      rows = placed (replicate jobs idle) (fileRows bs);
+      tokens = h .tokens + 1;
+      resources = h .resources + 1;
+      limit = h .limit;
+      time = h .time;
+      last = record { 0 = h .last };
+      rows = rows;
     }
+
+-- the table in a file; a job that has no row there is idle
+unfoldable pub tableIn : List ℕ → Table
+tableIn bs = tableOf (headIn bs) (placed (replicate jobs idle) (fileRows bs))
 
 -- ---- Reading
 

@@ -32,7 +32,8 @@ unfolding course
 events-sound t [] p = p
 events-sound t (e ∷ es) p = events-sound (next jobs t e) es (next-sound jobs t e p)
 
-idle-rows : (n k : ℕ) → rowOf (replicate n idle) k ≡ idle
+-- where nobody has a request every row is idle
+pub idle-rows : (n k : ℕ) → rowOf (replicate n idle) k ≡ idle
 idle-rows zero k = refl
 idle-rows (suc n) zero = refl
 idle-rows (suc n) (suc k) = idle-rows n k

@@ -1,0 +1,34 @@
+-- What saving a table into a room, and loading one from bytes, answer and leave.
+use Prim.Native.Nat.{ℕ}
+use mathlib.Core.List.{List}
+use lib.ListN.{length}
+use Rattle.arbiter.specs.Answers.{Said, saysDone}
+use Rattle.arbiter.specs.Meaning.{noTable}
+use Rattle.arbiter.specs.declared.table.Table.{Table}
+use Rattle.event.specs.Refusals.{numberOf}
+use Rattle.laws.specs.Cases.{Outcome, fine, leaves, outcome, refused}
+use Rattle.laws.specs.Front.{over}
+use Rattle.file.specs.File.{file, readCases, tableIn, writeCases}
+use Rattle.service.specs.declared.saving.Saved.{Saved}
+use Rattle.service.specs.declared.saving.Saved.the-variants as saved
+
+-- what saving answers: the length of the file
+unfoldable pub saveAnswer : Table → List ℕ → Outcome ℕ
+saveAnswer t room = outcome (writeCases (length room) t) (length (file t))
+
+-- the room after it: the file at the front, or all as it was
+unfoldable pub roomAfter : Table → List ℕ → List ℕ
+roomAfter t room = leaves (writeCases (length room) t) room (over (file t) room)
+
+-- what a Saved says
+abbrev pub savedOf : Saved → Outcome ℕ
+savedOf (saved.No r) = refused (numberOf r)
+savedOf (saved.Length n) = fine n
+
+-- what loading answers
+unfoldable pub loadAnswer : List ℕ → Outcome Said
+loadAnswer bs = outcome (readCases bs) saysDone
+
+-- the table that it hands back; a refused one hands back the all-zero table, which is unsound
+unfoldable pub loadTable : List ℕ → Table
+loadTable bs = leaves (readCases bs) noTable (tableIn bs)
