@@ -1,4 +1,4 @@
-/* The lock arbiter for firmware in C: the calls on a table and the writing of records.
+/* The lock arbiter for firmware in C: the calls on a table, the writing of records and service files.
  *
  * A table goes into a call by value and the next one comes back; nothing is changed in place, and no call remembers
  * anything. docs/FIRMWARE.md says what each call promises and what its caller owes. */
@@ -25,11 +25,12 @@ enum {
     NORAKKEUN_TOKEN = 1,   /* open: the request has a token */
     NORAKKEUN_GRANTED = 2, /* ask: the whole set is held */
     NORAKKEUN_WAIT = 3,    /* open: no token yet; ask: the whole set is asked and comes in one step later */
-    NORAKKEUN_DONE = 4,    /* start, beat, release */
+    NORAKKEUN_DONE = 4,    /* start, beat, release, load */
     NORAKKEUN_WOKE = 5     /* complete: as many jobs as `woken` says stand at the front of the lent list */
 };
 
-/* The refusals. The lowest number that applies to the call is the one given; the calls give 1 to 17. */
+/* The refusals. The lowest number that applies to the call is the one given; of saving and loading the first in the order
+ * that stands beside them. */
 enum {
     NORAKKEUN_ACCEPTED = 0,
     NORAKKEUN_BAD_START = 1,        /* tokens, resources or limit out of range */
@@ -50,7 +51,7 @@ enum {
     NORAKKEUN_TURNS_SPENT = 16,     /* the last turn given is 2^63-1 */
     NORAKKEUN_WRONG_LENGTH = 17,    /* writing: room under 14 bytes */
     NORAKKEUN_UNKNOWN_KIND = 18,    /* a replay only: kind 6 or 7 */
-    NORAKKEUN_BIT_SET = 19,         /* a replay only: a bit that must be 0 is 1 */
+    NORAKKEUN_BIT_SET = 19,         /* load, and a replay: a bit that must be 0 is 1 */
     NORAKKEUN_START_OUT_OF_PLACE = 20, /* a replay only: start not first, or first not start */
     NORAKKEUN_WRONG_SIZE = 21,      /* load: a service file of the wrong length; save: no room for it */
     NORAKKEUN_UNKNOWN_VERSION = 22  /* load: a service file of a version other than 1 */
@@ -157,10 +158,11 @@ uint32_t norakkeun_record_ask(uint32_t job, norakkeun_tick tick, uint64_t set, u
 uint32_t norakkeun_record_release(uint32_t job, norakkeun_tick tick, uint64_t set, uint8_t *room, size_t length);
 uint32_t norakkeun_record_complete(uint32_t job, norakkeun_tick tick, uint8_t *room, size_t length);
 
-/* The table's service file at the front of the lent room; later bytes keep what they had. */
+/* The table's service file at the front of the lent room; later bytes keep what they had. Refused as 3, then 21, and the
+ * room is as before. */
 norakkeun_saved norakkeun_save(norakkeun_table table, uint8_t *room, size_t length);
 
-/* The table of a service file. Says done; a refused load gives the all-zero table, which is not sound. */
+/* The table of a service file. Says done; refused as 21, 22, 19, then 3, it gives the all-zero table, which is not sound. */
 norakkeun_told norakkeun_load(const uint8_t *file, size_t length);
 
 #ifdef __cplusplus

@@ -1,6 +1,8 @@
-// What firmware in C or Rust links: the calls on a table and the writing of records, under C's names and in C's layout.
+// What firmware in C or Rust links: the calls on a table, the writing of records and service files, under C's names and in C's
+// layout.
 // `norakkeun.h` beside this folder declares them once more; that the two agree is shown by running, not proved.
 mod calls;
+mod files;
 mod records;
 
 pub use calls::norakkeun_ask;
@@ -11,6 +13,8 @@ pub use calls::norakkeun_overdue;
 pub use calls::norakkeun_release;
 pub use calls::norakkeun_report;
 pub use calls::norakkeun_start;
+pub use files::norakkeun_load;
+pub use files::norakkeun_save;
 pub use records::norakkeun_record_ask;
 pub use records::norakkeun_record_beat;
 pub use records::norakkeun_record_complete;

@@ -7,6 +7,7 @@ use Rattle.arbiter.specs.declared.table.Report.{Report}
 use Rattle.arbiter.specs.declared.table.Table.{Table}
 use Rattle.numbers.specs.declared.JobReport.{JobReport}
 use Rattle.numbers.specs.declared.LateJobs.{LateJobs}
+use Rattle.numbers.specs.declared.SavedFile.{SavedFile}
 use Rattle.numbers.specs.declared.Told.{Told}
 
 -- the number of a refusal, or 0
@@ -49,7 +50,7 @@ reportIn (fine r) = r
 abbrev pub reportInNumbers : Outcome Report → JobReport
 reportInNumbers o = record { refusal = refusalIn o; report = reportIn o }
 
--- how many jobs
+-- the number that was given
 abbrev pub countIn : Outcome ℕ → ℕ
 countIn (refused n) = 0
 countIn (fine n) = n
@@ -57,3 +58,7 @@ countIn (fine n) = n
 -- the answer to who is overdue
 abbrev pub lateInNumbers : Outcome ℕ → LateJobs
 lateInNumbers o = record { refusal = refusalIn o; count = countIn o }
+
+-- what saving a table gave
+abbrev pub savedInNumbers : Outcome ℕ → SavedFile
+savedInNumbers o = record { refusal = refusalIn o; length = countIn o }

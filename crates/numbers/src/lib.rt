@@ -1,8 +1,9 @@
 // Answers in numbers, since no enum passes the boundary: each begins with a refusal's number, or 0.
 ghost use mathlib.Core.Path.{_≡_};
 ghost use Rattle.arbiter.specs.Answers.{lateOf, reportOf, saidOf};
+ghost use Rattle.saving.specs.Meaning.{savedOf};
 ghost use Rattle.writing.specs.Meaning.{writingOf};
-ghost use Rattle.numbers.specs.Numbers.{eventInNumbers, lateInNumbers, refusalIn, reportInNumbers};
+ghost use Rattle.numbers.specs.Numbers.{eventInNumbers, lateInNumbers, refusalIn, reportInNumbers, savedInNumbers};
 use arbiter::Late;
 use arbiter::Next;
 use arbiter::Report;
@@ -11,6 +12,7 @@ use arbiter::Table;
 use decision::Answer;
 use event::number;
 use rows::Turn;
+use saving::Saved;
 use writing::Writing;
 
 // What an accepted event is told; 0 where it is refused.
@@ -45,6 +47,13 @@ pub struct JobReport {
 pub struct LateJobs {
     pub refusal: u32,
     pub count: u32,
+}
+
+// How many bytes of the lent room are the service file; with a refusal, 0.
+#[repr(C)]
+pub struct SavedFile {
+    pub refusal: u32,
+    pub length: u32,
 }
 
 // An event's answer and the next table.
@@ -109,6 +118,19 @@ pub fn late_in_numbers(late: Late) -> LateJobs
             count: 0,
         },
         Late::Count(count) => LateJobs { refusal: 0, count },
+    }
+}
+
+// What saving a table gave.
+pub fn saved_in_numbers(saved: Saved) -> SavedFile
+    ensures { λ r. ⌜ r ≡ savedInNumbers (savedOf saved) ⌝ }
+{
+    match saved {
+        Saved::No(refusal) => SavedFile {
+            refusal: number(refusal),
+            length: 0,
+        },
+        Saved::Length(length) => SavedFile { refusal: 0, length },
     }
 }
 

@@ -1,7 +1,12 @@
--- What saving and loading mean, and what the contracts of this crate say.
-pub mod LoadingLaws
-pub mod Meaning
+-- What a service file is, and what reading and writing its parts promise.
+pub mod FieldsIn
+pub mod File
+pub mod FileLaws
+pub mod PlacedLaws
+pub mod Placing
+pub mod PlacingLaws
 pub mod Prelude
 pub mod Promises
-pub mod SavingLaws
-pub mod Taking
+pub mod RoundTrip
+pub mod SoundLaws
+pub mod Worked

@@ -1,19 +1,18 @@
--- What saving and loading promise.
+-- What reading a head or a row gives.
 use Prim.Native.Nat.{ℕ}
 use mathlib.Core.List.{List}
 use mathlib.Core.Path.{_≡_}
-use Rattle.arbiter.specs.Answers.{saidOf}
-use Rattle.arbiter.specs.declared.table.Next.{Next}
-use Rattle.arbiter.specs.declared.table.Table.{Table}
-use Rattle.service.specs.Meaning.{loadAnswer, loadTable, roomAfter, saveAnswer, savedOf}
-use Rattle.service.specs.declared.saving.Saved.{Saved}
+use Rattle.fields.specs.Fields.{Fit}
+use Rattle.service.specs.File.{headIn, headOrder, headWidths, rowIn, rowOrder, rowWidths}
+use Rattle.service.specs.declared.format.FileHead.{FileHead}
+use Rattle.service.specs.declared.format.FileRow.{FileRow}
 
--- Saving t into the room `before` answered r and left `after` there.
-pub record SavedInto (t : Table) (before : List ℕ) (r : Saved) (after : List ℕ) : Type 0 where
-  pub answers : savedOf r ≡ saveAnswer t before
-  pub leaves : after ≡ roomAfter t before
+-- h is the head with which the bytes begin, and so each field has no more bits than its width.
+pub record ReadHead (bs : List ℕ) (h : FileHead) : Type 0 where
+  pub is : h ≡ headIn bs
+  pub fits : Fit (headOrder headWidths) (headOrder h)
 
--- Loading these bytes answered r, and handed its table back.
-pub record Loaded (bs : List ℕ) (r : Next) : Type 0 where
-  pub says : saidOf (r .answer) ≡ loadAnswer bs
-  pub hands : r .table ≡ loadTable bs
+-- f is the row with which the bytes begin, and so each field has no more bits than its width.
+pub record ReadRow (bs : List ℕ) (f : FileRow) : Type 0 where
+  pub is : f ≡ rowIn bs
+  pub fits : Fit (rowOrder rowWidths) (rowOrder f)

@@ -1,0 +1,6 @@
+-- What saving means, and what the contracts of this crate say.
+pub mod Determined
+pub mod Meaning
+pub mod Prelude
+pub mod Promises
+pub mod SavingLaws
