@@ -7,7 +7,7 @@ use Rattle.arbiter.specs.declared.table.Table.{Table}
 use Rattle.decimal.specs.Text.{ascii}
 use Rattle.event.specs.Refusals.{refusing}
 use Rattle.event.specs.declared.refusal.Refusal.the-variants.{WrongSize}
-use Rattle.file.specs.File.{tableRead}
+use Rattle.service.specs.File.{tableRead}
 use Rattle.laws.specs.Cases.{Case, Outcome, fine, leaves, outcome, refused}
 use Rattle.laws.specs.Front.{over}
 use Rattle.page.specs.Page.{page, pageRoom, wordAndNumbers}

@@ -24,11 +24,11 @@ pub use Rattle.arbiter.specs.Answers.{Said, saidOf, saysDone}
 pub use Rattle.arbiter.specs.Meaning.{noTable}
 pub use Rattle.arbiter.specs.declared.table.Next.{Next}
 pub use Rattle.arbiter.specs.declared.table.Table.{Table}
-pub use Rattle.file.specs.File.{readCases, tableIn}
-unfoldable pub use Rattle.file.specs.File.{tableRead}
-pub use Rattle.file.specs.RoundTrip.{read-sound}
-unfoldable pub use Rattle.service.specs.Meaning.{loadAnswer, loadTable}
-pub use Rattle.service.specs.Promises.{Loaded}
+pub use Rattle.service.specs.File.{readCases, tableIn}
+unfoldable pub use Rattle.service.specs.File.{tableRead}
+pub use Rattle.service.specs.RoundTrip.{read-sound}
+unfoldable pub use Rattle.loading.specs.Meaning.{loadAnswer, loadTable}
+pub use Rattle.loading.specs.Promises.{Loaded}
 pub use Rattle.page.specs.Determined.{shown-said}
 pub use Rattle.page.specs.Meaning.{shownOf}
 unfoldable pub use Rattle.page.specs.Meaning.{pageAnswer, roomAfter as roomWithPage}

@@ -46,16 +46,16 @@ abbrev pub numberRoom : ℕ
 numberRoom = 21
 
 -- a word of k letters and n numbers take at most so many, with the line's end
-abbrev pub lineRoom : ℕ → ℕ → ℕ
-lineRoom k n = k + numberRoom * n + 1
+abbrev pub wordAndNumbersRoom : ℕ → ℕ → ℕ
+wordAndNumbersRoom k n = k + numberRoom * n + 1
 
 -- the first line
 abbrev pub headRoom : ℕ
-headRoom = lineRoom 5 6
+headRoom = wordAndNumbersRoom 5 6
 
 -- the line of a row
 abbrev pub rowRoom : ℕ
-rowRoom = lineRoom 3 6
+rowRoom = wordAndNumbersRoom 3 6
 
 -- a page: every job may have a row
 abbrev pub pageRoom : ℕ

@@ -8,7 +8,7 @@ ghost use Rattle.laws.specs.Front.{Wrote};
 ghost use Rattle.line.specs.LineInCode.{Lines};
 ghost use Rattle.lines.specs.Lines.{items};
 ghost use Rattle.rows.specs.Line.{line};
-ghost use Rattle.page.specs.Page.{headLine, headRoom, lineRoom, liveLines, numberRoom, rowLine, rowRoom, wordAndNumbers};
+ghost use Rattle.page.specs.Page.{headLine, headRoom, liveLines, numberRoom, rowLine, rowRoom, wordAndNumbers, wordAndNumbersRoom};
 ghost use Rattle.page.specs.Promises.{PutPage};
 use arbiter::Table;
 use arbiter::bounds;
@@ -55,10 +55,10 @@ fn put_numbers(numbers: &[u64], out: &mut [u8], at: usize) -> usize
 }
 
 // Puts a line: a word, and each number behind a space.
-pub fn put_line(word: &[u8], numbers: &[u64], out: &mut [u8], at: usize) -> usize
-    requires { ⌜ at + lineRoom (length (now word)) (length (now numbers)) ≤ length (now out) ⌝ }
+pub fn put_word_and_numbers(word: &[u8], numbers: &[u64], out: &mut [u8], at: usize) -> usize
+    requires { ⌜ at + wordAndNumbersRoom (length (now word)) (length (now numbers)) ≤ length (now out) ⌝ }
     ensures { λ r. ⌜ Wrote (now (out .entry)) at (wordAndNumbers (now (word .entry)) (now (numbers .entry))) r (now (out .exit)) ⌝ }
-    ensures { λ r. ⌜ r ≤ at + lineRoom (length (now (word .entry))) (length (now (numbers .entry))) ⌝ }
+    ensures { λ r. ⌜ r ≤ at + wordAndNumbersRoom (length (now (word .entry))) (length (now (numbers .entry))) ⌝ }
 {
     let next = put(word, out, at);
     let end = put_numbers(numbers, out, next);
@@ -81,7 +81,7 @@ fn put_head(t: Table, live: usize, out: &mut [u8]) -> usize
         last.0,
         live as u64,
     ];
-    put_line(b"table", &numbers, out, 0)
+    put_word_and_numbers(b"table", &numbers, out, 0)
 }
 
 // Puts the line of a job's row.
@@ -99,7 +99,7 @@ fn put_row(job: u8, row: Row, out: &mut [u8], at: usize) -> usize
         row.asked,
         row.since,
     ];
-    put_line(b"row", &numbers, out, at)
+    put_word_and_numbers(b"row", &numbers, out, at)
 }
 
 // Puts the lines of the live rows, in order of turn.

@@ -14,7 +14,7 @@ use listing::Took;
 use page::PAGE;
 use page::Shown;
 use record::SIZE;
-use service::Saved;
+use saving::Saved;
 use stage::Stage;
 use stage::begin;
 use stream::Out;
@@ -58,7 +58,8 @@ fn print(room: &[u8], count: usize) {
     stream::flush(out, room);
 }
 
-// Prints what a service file says. One that is longer than what is read of it is of the wrong length in any case.
+// Prints what a service file says. One that has more bytes than are read here is refused as these are: no head counts so
+// many rows.
 fn show() {
     let mut file = io::large_buffer();
     let piece = stream::fill(&mut file);
@@ -145,7 +146,7 @@ fn save_from(start: Table) {
     }
     let replay = taken.replay;
     let table = replay.table;
-    let saved = service::save(table, &mut room);
+    let saved = saving::save(table, &mut room);
     match saved {
         Saved::No(_) => {}
         Saved::Length(count) => print(&room, count as usize),

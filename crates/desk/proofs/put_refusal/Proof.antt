@@ -4,7 +4,7 @@ use Rattle.desk.proofs.put_refusal.Statement.{statement}
 use Rattle.desk.proofs.put_refusal.Tie as tie
 
 returns : tie.Need-returns
-returns c = rw (← c .before .before .before .before .before .number .ensures) (c .before .before .put-line .ensures .0)
+returns c = rw (← c .before .before .before .before .before .number .ensures) (c .before .before .put-word-and-numbers .ensures .0)
 
 pub put-refusal-spec : {M : Type 1} → statement M
 put-refusal-spec =

@@ -3,12 +3,12 @@ use Rattle.page.specs.Prelude.{arith, needs}
 use Rattle.page.proofs.put_head.Statement.{statement}
 use Rattle.page.proofs.put_head.Tie as tie
 
-put-line-requires : tie.Need-put-line-requires
-put-line-requires c κs = omega (arith, c .before .before .before .before .before .before .before .before .pre .1)
+put-word-and-numbers-requires : tie.Need-put-word-and-numbers-requires
+put-word-and-numbers-requires c κs = omega (arith, c .before .before .before .before .before .before .before .before .pre .1)
 
 returns : tie.Need-returns
 returns c =
-    rw (← c .before .before .before .before .before .before .before .before .before .before .before .pre .0) (c .before .before .put-line .ensures)
+    rw (← c .before .before .before .before .before .before .before .before .before .before .before .pre .0) (c .before .before .put-word-and-numbers .ensures)
 
 pub put-head-spec : {M : Type 1} → statement M
 put-head-spec =
@@ -19,6 +19,6 @@ put-head-spec =
     (λ c. search needs)
     (λ c. search needs)
     (λ c. search needs)
-    put-line-requires
+    put-word-and-numbers-requires
     (λ c. search needs)
     returns)

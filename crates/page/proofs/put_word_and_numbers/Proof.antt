@@ -1,8 +1,8 @@
 -- The word, the numbers and the line's end.
 use Rattle.page.specs.Prelude.{arith, needs, then, wrote-length}
 use Rattle.page.specs.Page.{wordAndNumbers}
-use Rattle.page.proofs.put_line.Statement.{statement}
-use Rattle.page.proofs.put_line.Tie as tie
+use Rattle.page.proofs.put_word_and_numbers.Statement.{statement}
+use Rattle.page.proofs.put_word_and_numbers.Tie as tie
 
 put-requires : tie.Need-put-requires
 put-requires c κs = omega (arith, c .before .before .before .before .pre)
@@ -26,7 +26,7 @@ returns c =
     let y = c .before .before .put2 .ensures in
     (then (then w (x .0)) y, omega (arith, w .ends, x .1, y .ends))
 
-pub put-line-spec : {M : Type 1} → statement M
-put-line-spec =
+pub put-word-and-numbers-spec : {M : Type 1} → statement M
+put-word-and-numbers-spec =
     tie.close
     (tie.spec put-requires put-numbers-requires (λ c. search needs) put-requires-2 (λ c. search needs) returns)
