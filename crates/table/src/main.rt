@@ -25,7 +25,7 @@ const ROOM: usize = 65536;
 // How many bytes are read at once: whole records, as many as their lines have room for.
 const BLOCK: usize = SIZE * (ROOM / LINE);
 
-// Where the replay stands, whether more of the input may follow, and whether a read failed.
+// Where the replay stands, whether more of the input may follow, and whether a block was not read or not taken.
 struct Taken {
     replay: Replay,
     more: bool,
@@ -59,7 +59,7 @@ fn print(room: &[u8], count: usize) {
 }
 
 // Prints what a service file says. One that has more bytes than are read here is refused as these are: no head counts so
-// many rows.
+// many rows. The room is never too short.
 fn show() {
     let mut file = io::large_buffer();
     let piece = stream::fill(&mut file);
@@ -137,7 +137,8 @@ fn take_all(start: Table, room: &mut [u8]) -> Taken {
     }
 }
 
-// Writes the service file of the table that the records behind an accepted start lead to, unless a read failed.
+// Writes the service file of the table that the records behind an accepted start lead to, unless one was not read. That
+// table is sound and the room is never too short, so saving refuses nothing.
 fn save_from(start: Table) {
     let mut room = io::large_buffer();
     let taken = take_all(start, &mut room);
