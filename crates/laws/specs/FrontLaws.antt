@@ -1,5 +1,5 @@
 -- Laws of the front of a list, and of lists with a part written over.
-use Rattle.laws.specs.Prelude.{_+_, _++_, _<_, List, [], add-assoc, add-one, add-zero, ap, append-assoc, append-nil, append-snoc, arith, decLe, drop, drop-append-add, drop-append-le, drop-at, drop-drop, drop-length, drop-of-length-le, length, length-append, length-drop, length-take-le, min, refl, set, set-split, suc, sym, take, take-all, take-append-add, take-append-drop, take-append-le, take-at, take-length, take-set-le, zero-add, ℕ, _∙_, _∷_, _≡_, _≤_}
+use Rattle.laws.specs.Prelude.{_+_, _++_, _-_, _<_, List, [], add-assoc, add-one, add-zero, ap, append-assoc, append-nil, append-snoc, arith, decLe, drop, drop-append-add, drop-append-le, drop-at, drop-drop, drop-length, drop-of-length-le, length, length-append, length-drop, length-take-le, min, refl, set, set-split, suc, sym, take, take-all, take-append-add, take-append-drop, take-append-le, take-at, take-length, take-set-le, zero-add, ℕ, _∙_, _∷_, _≡_, _≤_}
 use Rattle.laws.specs.Front.{Wrote, laid, over}
 
 -- no further than the list goes is as good as further
@@ -72,6 +72,16 @@ module _ {A : Type 0} where
       let place : k + length (s ++ b ∷ []) ≡ suc i = simp length-append (omega arith) in
       rw
       (take-set-le k out i b (omega arith), drop-set out i b h, laid, place, ← append-assoc (take k out) s (b ∷ []), append-snoc)
+
+  -- xs at the front of what lies from place k on, which was lent as a list of its own, are laid at k
+  pub laid-part :
+      (out part xs : List A) (k : ℕ) → k ≤ length out → part ≡ over xs (take (length out - k) (drop k out)) →
+      take k out ++ (part ++ drop (length out - k) (drop k out)) ≡ laid out k xs
+  unfolding laid over
+  laid-part out part xs k h e =
+      let whole = take-all (length out - k) (drop k out) (omega (arith, length-drop k out)) in
+      let none = drop-of-length-le (drop k out) {i = length out - k} (omega (arith, length-drop k out)) in
+      rw (e, whole, none, append-nil, drop-drop (length xs) k out, append-assoc)
 
 module _ {A : Type 0} {before after : List A} {k end : ℕ} {s : List A} where
   -- the room is as long as it was

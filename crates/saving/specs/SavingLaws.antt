@@ -1,19 +1,9 @@
--- What is written through a part of a room, and the rows still to be written.
-use Rattle.saving.specs.Prelude.{First, List, Row, Saved, Table, add-one, ap, append-assoc, append-nil, arith, drop, drop-cons, drop-drop, drop-of-length-le, getD, keepUnless, laid, laid-front, laid-laid, leaves-is, length, length-drop, length-pack, outcome-is, over, rowOf, suc, sym, take, take-all, unless, zero-add, ℕ, _+_, _++_, _-_, _<_, _∙_, _∷_, _≡_, _≤_}
+-- The rows still to be written, and the file that they and the head make.
+use Rattle.saving.specs.Prelude.{First, List, Row, Saved, Table, add-one, ap, arith, drop, drop-cons, getD, keepUnless, laid, laid-front, laid-laid, leaves-is, length, length-pack, outcome-is, over, rowOf, suc, sym, unless, zero-add, ℕ, _+_, _++_, _<_, _∙_, _∷_, _≡_, _≤_}
 use Rattle.service.specs.File.{file, headBytes, headOf, headOrder, headSize, headWidths, rowBytes, rowOrder, rowSize, rowWidths, rowsBytes, rowsOf, rowsSaid, sayRow, writeCases}
 use Rattle.service.specs.declared.format.FileRow.{FileRow}
 use Rattle.saving.specs.Meaning.{roomAfter, saveAnswer, savedOf}
 use Rattle.saving.specs.Promises.{SavedInto}
-
--- the room after its part from place k on, lent as a room of its own, has xs at its front
-pub laid-part :
-    (room part xs : List ℕ) (k : ℕ) → k ≤ length room → part ≡ over xs (take (length room - k) (drop k room)) →
-    take k room ++ (part ++ drop (length room - k) (drop k room)) ≡ laid room k xs
-unfolding laid over
-laid-part room part xs k h e =
-    let whole = take-all (length room - k) (drop k room) (omega (arith, length-drop k room)) in
-    let none = drop-of-length-le (drop k room) {i = length room - k} (omega (arith, length-drop k room)) in
-    rw (e, whole, none, append-nil, drop-drop (length xs) k room, append-assoc)
 
 -- a row is written where the rows left are to go: the others go behind it
 pub row-put :

@@ -1,5 +1,5 @@
 -- Laws of what is written: how long it is, and that each part is read back.
-use Rattle.service.specs.Prelude.{Bytes, Fit, List, Table, [], _%_, _*_, _+_, _++_, _∙_, _∷_, _≡_, _≤_, ap, arith, below-take, drop, drop-at, length, length-append, length-map, length-pack, length-take-le, line, pack, pack-unpack, refl, rowOf, sym, take, take-append-drop, total, unpack, unpack-append, unpack-pack, ℕ}
+use Rattle.service.specs.Prelude.{Fit, List, Table, [], _*_, _+_, _++_, _∙_, _∷_, _≡_, ap, arith, drop-at, front-unpacked, length, length-append, length-map, length-pack, line, refl, rowOf, ℕ}
 use Rattle.service.specs.File.{file, headBytes, headIn, headNamed, headOf, headOrder, headSize, headWidths, rowBytes, rowIn, rowNamed, rowOrder, rowSize, rowWidths, rowsBytes, rowsIn, rowsOf, sayRow}
 use Rattle.service.specs.Placing.{Every, RowFits}
 use Rattle.service.specs.declared.format.FileHead.{FileHead}
@@ -25,22 +25,6 @@ file-length t =
       length-rows (rowsOf t),
       length-map (line (t .rows)) (λ j. sayRow j (rowOf (t .rows) j)),
     )
-
--- ---- Fields at the front of bytes
-
-module _ (ws : List ℕ) where
-  -- fields that were packed are read back, whatever stands behind them
-  front-unpacked : (vs rest : List ℕ) → Fit ws vs → total ws % 8 ≡ 0 → unpack ws (pack ws vs ++ rest) ≡ vs
-  front-unpacked vs rest fit whole =
-      unpack-append ws (pack ws vs) rest (omega (arith, length-pack ws vs)) ∙ unpack-pack ws vs fit whole
-
-  -- fields that were read from the first n bytes, packed again, are those bytes
-  pub front-packed : (n : ℕ) (bs : List ℕ) → Bytes bs → total ws ≡ 8 * n → n ≤ length bs → pack ws (unpack ws bs) ≡ take n bs
-  front-packed n bs bytes whole enough =
-      let long = length-take-le n bs enough in
-      ap (λ (l : List ℕ). pack ws (unpack ws l)) (sym (take-append-drop n bs))
-      ∙ ap (pack ws) (unpack-append ws (take n bs) (drop n bs) (omega arith))
-      ∙ pack-unpack ws (take n bs) (below-take 256 n bs bytes) (omega arith)
 
 -- ---- What is written is read
 

@@ -1,5 +1,5 @@
 -- The names from outside that this crate's definitions and proofs use, passed on by one module.
-pub use Prim.Native.Nat.{_%_, _*_, _+_, _-_, _<_, _^_, _≤_, suc, zero, ℕ}
+pub use Prim.Native.Nat.{_*_, _+_, _-_, _<_, _^_, _≤_, suc, zero, ℕ}
 pub use mathlib.Core.Bool.{Bool, _&&_, _||_, and-false, and-true, false, not, true}
 pub use mathlib.Core.List.{List, [], _++_, _∷_, append-nil, map}
 pub use mathlib.Core.Logic.{_↔_, _≢_}
@@ -10,9 +10,9 @@ pub use borrow.Author.Needs.{needs}
 pub use borrow.Author.Tests.{eq-eqb, eqb-true, le-ltb, lt-ltb, ltb-false, ltb-true, ne-eqb, not-false, not-true}
 pub use lib.Arith.{le-zero}
 pub use lib.Dec.{eqb, ltb}
-pub use lib.ListN.{drop, drop-of-length-le, length, length-append, length-drop, length-map, length-replicate, length-set, replicate, set, take, take-append-drop}
+pub use lib.ListN.{drop, drop-of-length-le, length, length-append, length-drop, length-map, length-replicate, length-set, replicate, set, take-append-drop}
 pub use lib.Pow.{pow-mono}
-pub use lib.Seq.{append-snoc, drop-at, drop-drop, ext-getD, getD-set-other, getD-set-same, length-take-le, set-getD, set-set}
+pub use lib.Seq.{append-snoc, drop-at, drop-drop, ext-getD, getD-set-other, getD-set-same, set-getD, set-set}
 pub use Rattle.laws.specs.BoolLaws.{and-left, and-right, or-clear}
 pub use Rattle.laws.specs.Bools.{bit}
 pub use Rattle.laws.specs.CaseLaws.{acceptance-tells, clear, outcome-is}
@@ -24,13 +24,13 @@ pub use Rattle.laws.specs.ListLaws.{none-above}
 unfoldable pub use Rattle.laws.specs.Lists.{all, any, count}
 pub use Rattle.laws.specs.SetLaws.{below-reads, inside-reads, inside-refl}
 unfoldable pub use Rattle.laws.specs.Sets.{below, inside, meet, meets}
-pub use Rattle.fields.specs.DigitLaws.{below-drop, below-take}
+pub use Rattle.fields.specs.DigitLaws.{below-drop}
 unfoldable pub use Rattle.fields.specs.Digits.{digits, value}
-pub use Rattle.fields.specs.Fields.{Fit, total}
+pub use Rattle.fields.specs.Fields.{Fit}
 unfoldable pub use Rattle.fields.specs.Fields.{bits, split}
 pub use Rattle.fields.specs.Packing.{Bytes}
 unfoldable pub use Rattle.fields.specs.Packing.{pack, row, unpack}
-pub use Rattle.fields.specs.PackingLaws.{fit-unpack, length-pack, length-unpack, pack-unpack, unpack-append, unpack-each, unpack-pack}
+pub use Rattle.fields.specs.PackingLaws.{fit-unpack, front-packed, front-unpacked, length-pack, length-unpack, unpack-each}
 pub use Rattle.event.specs.Limits.{jobs, most}
 pub use Rattle.event.specs.Refusals.{numberOf}
 pub use Rattle.event.specs.declared.refusal.Refusal.the-variants.{BitSet, UnknownVersion, UnsoundTable, WrongSize}

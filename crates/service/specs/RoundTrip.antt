@@ -1,9 +1,9 @@
 -- A sound table has one file, and reading that file gives the table.
-use Rattle.service.specs.Prelude.{BitSet, Bool, Bytes, List, Row, Table, UnknownVersion, UnsoundTable, WrongSize, [], _&&_, _*_, _++_, _+_, _-_, _<_, _↔_, _∙_, _∷_, _≡_, _≤_, acceptance-tells, and-false, and-left, and-right, any, ap, arith, below-drop, case, clear, drop, drop-at, eq-eqb, eqb, eqb-true, false, fine, first, idle, jobs, le-ltb, length, length-drop, length-lined-le, length-map, length-pack, length-replicate, line, ltb, map, none-above, not, not-false, numberOf, or-clear, outcome-is, pack, past, refl, refused, replicate, rowOf, sound, suc, sym, table-sound, take-append-drop, this, true, zero, ℕ}
+use Rattle.service.specs.Prelude.{BitSet, Bool, Bytes, List, Row, Table, UnknownVersion, UnsoundTable, WrongSize, [], _&&_, _*_, _++_, _+_, _-_, _<_, _↔_, _∙_, _∷_, _≡_, _≤_, acceptance-tells, and-false, and-left, and-right, any, ap, arith, below-drop, case, clear, drop, drop-at, eq-eqb, eqb, eqb-true, false, fine, first, front-packed, idle, jobs, le-ltb, length, length-drop, length-lined-le, length-map, length-pack, length-replicate, line, ltb, map, none-above, not, not-false, numberOf, or-clear, outcome-is, pack, past, refl, refused, replicate, rowOf, sound, suc, sym, table-sound, take-append-drop, this, true, zero, ℕ}
 use Rattle.laws.specs.Chains.{none as nothing}
 use Rattle.service.specs.File.{ascend, bitSet, file, fileRows, good, headBytes, headIn, headOf, headOrder, headSize, headWidths, known, once, placed, readCases, rowOrder, rowSize, rowWidths, rowsBytes, rowsIn, rowsOf, sayRow, tableIn, tableRead, version, wrongSize}
 use Rattle.service.specs.FieldsIn.{head-order, row-order}
-use Rattle.service.specs.FileLaws.{file-length, front-packed, head-back, rows-back}
+use Rattle.service.specs.FileLaws.{file-length, head-back, rows-back}
 use Rattle.service.specs.PlacedLaws.{length-placed, line-placed, rows-again}
 use Rattle.service.specs.Placing.{fits}
 use Rattle.service.specs.PlacingLaws.{fits-all, rows-jobs}

@@ -1,8 +1,8 @@
 -- The loop keeps what is to come: the rows left, laid from where the next one goes, make the whole.
-use Rattle.saving.specs.Prelude.{List, [], ap, arith, drop, drop-of-length-le, getD, jobs, laid, laid-front, laid-none, length, length-laid, length-pack, needs, refl, sym, ℕ, _*_, _+_, _-_, _<_, _∙_, _≡_, _≤_}
+use Rattle.saving.specs.Prelude.{List, [], ap, arith, drop, drop-of-length-le, getD, jobs, laid, laid-front, laid-none, laid-part, length, length-laid, length-pack, needs, refl, sym, ℕ, _*_, _+_, _-_, _<_, _∙_, _≡_, _≤_}
 use Rattle.service.specs.File.{rowBytes, rowOrder, rowSize, rowWidths, rowsBytes, rowsSaid}
 use Rattle.rows.specs.Line.{line}
-use Rattle.saving.specs.SavingLaws.{laid-part, row-put}
+use Rattle.saving.specs.SavingLaws.{row-put}
 use Rattle.sweep.proofs.Jobs.{job-below, job-here, line-fits}
 use Rattle.saving.proofs.put_rows.Statement.{statement}
 use Rattle.saving.proofs.put_rows.Tie as tie

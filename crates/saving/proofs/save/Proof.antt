@@ -1,5 +1,5 @@
 -- The tests are the cases, in their order; head and rows make the file.
-use Rattle.saving.specs.Prelude.{Bounds, Table, ap, arith, drop, fine, jobs, le-ltb, length, length-drop, length-take-le, lt-ltb, needs, not, not-false, not-true, over, past, refl, soundBy, sym, this, true, _*_, _+_, _-_, _∙_, _≡_, _≤_}
+use Rattle.saving.specs.Prelude.{Bounds, Table, ap, arith, drop, fine, jobs, laid-part, le-ltb, length, length-drop, length-take-le, lt-ltb, needs, not, not-false, not-true, over, past, refl, soundBy, sym, this, true, _*_, _+_, _-_, _∙_, _≡_, _≤_}
 use Rattle.laws.specs.Chains.{none}
 use Rattle.arbiter.proofs.Arrays.{arrays}
 use Rattle.arbiter.specs.ChangeLaws.{sound-by}
@@ -10,7 +10,7 @@ use Rattle.service.specs.declared.format.FileHead.{FileHead}
 use Rattle.kept.specs.Sound.Tests.{table-sound}
 use Rattle.kept.specs.Sound.Words.{SoundTable}
 use Rattle.line.specs.LineInCode.{Lines}
-use Rattle.saving.specs.SavingLaws.{file-put, laid-part, saved-is}
+use Rattle.saving.specs.SavingLaws.{file-put, saved-is}
 use Rattle.sweep.proofs.Jobs.{line-fits}
 use Rattle.saving.proofs.save.Statement.{statement}
 use Rattle.saving.proofs.save.Tie as tie
