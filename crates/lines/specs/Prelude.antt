@@ -2,12 +2,12 @@
 pub use Prim.Native.Nat.{_*_, _+_, _-_, _<_, _≤_, suc, zero, ℕ}
 pub use mathlib.Core.Bool.{Bool, cond, false, true}
 pub use mathlib.Core.List.{List, [], _++_, _∷_, append-assoc, append-nil}
-pub use mathlib.Core.Path.{_∙_, _≡_, ap, refl, subst}
+pub use mathlib.Core.Path.{_∙_, _≡_, ap, refl, subst, sym}
 pub use native.Mathlib.Numerals.{add-one}
 pub use native.Mathlib.Omega.{arith}
 pub use borrow.Author.Needs.{needs}
 pub use lib.ListN.{drop, getD, length, take}
-pub use lib.Seq.{take-append-seam, take-suc}
+pub use lib.Seq.{take-all, take-append-seam, take-suc}
 pub use Rattle.laws.specs.Cases.{fine, keepUnless, unless}
 unfoldable pub use Rattle.laws.specs.Cases.{first, leaves, outcome}
 pub use Rattle.laws.specs.Front.{Wrote}

@@ -15,7 +15,7 @@ use event::JOBS;
 use rows::live_count;
 
 // Puts a word and a number behind it.
-fn put_number(word: &[u8], n: u64, out: &mut [u8], at: usize) -> usize
+pub fn put_number(word: &[u8], n: u64, out: &mut [u8], at: usize) -> usize
     requires { ⌜ at + length (now word) + length (text n) ≤ length (now out) ⌝ }
     ensures { λ r. ⌜ Wrote (now (out .entry)) at (now (word .entry) ++ text n) r (now (out .exit)) ⌝ }
 {
