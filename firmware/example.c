@@ -3,7 +3,8 @@
  *     example RECORDING >listing 2>answers
  *
  * Each event is recorded before it is handed over, refused ones too: the replay refuses them alike. Standard output is
- * what bin/replay prints of RECORDING, and standard error has the answers to the questions. */
+ * what bin/replay prints of RECORDING, and standard error has the answers to the questions. In the middle of the night a
+ * spare drive takes over by a service file, which nobody notices. */
 #include <inttypes.h>
 #include <stdio.h>
 #include <stdlib.h>
@@ -14,8 +15,8 @@ enum { CURRENT_CONTROL = 3, BRAKE = 7, DISPLAY = 12, TELEMETRY = 20 };
 enum { ENCODER_BUS = 1, GATE_DRIVER = 2, PARAMETER_MEMORY = 4 }; /* a set is their sum */
 enum { TOKENS = 2, RESOURCES = 3, LIMIT_MS = 50 };
 
-/* Five events, which change the table, and two questions, which do not. */
-typedef enum { BEAT, OPEN, ASK, RELEASE, COMPLETE, REPORT, OVERDUE } message_kind;
+/* Five events, which change the table, and two questions, which do not; and a spare drive takes over. */
+typedef enum { BEAT, OPEN, ASK, RELEASE, COMPLETE, REPORT, OVERDUE, TAKE_OVER } message_kind;
 
 /* What a job or a timer says to the arbiter. */
 typedef struct message {
@@ -51,7 +52,7 @@ static void record_event(message m)
     case ASK: refusal = norakkeun_record_ask(m.job, m.tick, m.set, record, sizeof record); break;
     case RELEASE: refusal = norakkeun_record_release(m.job, m.tick, m.set, record, sizeof record); break;
     case COMPLETE: refusal = norakkeun_record_complete(m.job, m.tick, record, sizeof record); break;
-    default: return; /* questions are not recorded */
+    default: return; /* only events are recorded */
     }
     keep(record, refusal);
 }
@@ -104,6 +105,20 @@ static void watch(norakkeun_tick tick)
     fprintf(stderr, "\n");
 }
 
+/* The table goes to a spare drive by its service file. */
+static void take_over(void)
+{
+    uint8_t file[NORAKKEUN_LONGEST_FILE] = {0};
+    norakkeun_saved saved = norakkeun_save(table, file, sizeof file);
+    norakkeun_told told = norakkeun_load(file, saved.length);
+
+    if (saved.refusal != NORAKKEUN_ACCEPTED || told.refusal != NORAKKEUN_ACCEPTED) {
+        fprintf(stderr, "save no %" PRIu32 ", load no %" PRIu32 "\n", saved.refusal, told.refusal);
+        return;
+    }
+    table = told.table;
+}
+
 static void power_on(norakkeun_tick tick)
 {
     uint8_t record[NORAKKEUN_RECORD] = {0};
@@ -129,6 +144,7 @@ static void take(message m)
     case COMPLETE: told = norakkeun_complete(table, m.job, m.tick, woken, sizeof woken); break;
     case REPORT: tell_of(m.job); return;
     case OVERDUE: watch(m.tick); return;
+    case TAKE_OVER: take_over(); return;
     default: return;
     }
     table = told.table; /* after a refusal, the table as it was */
@@ -162,6 +178,7 @@ static const message night[] = {
     {ASK, DISPLAY, {6}, ENCODER_BUS}, /* refused: no token */
     {OVERDUE, 0, {6}, 0}, /* the first test after the wrap: still the brake */
     {REPORT, BRAKE, {0}, 0},
+    {TAKE_OVER, 0, {0}, 0}, /* with the brake still waiting */
     {COMPLETE, CURRENT_CONTROL, {20}, 0},
     {ASK, DISPLAY, {21}, ENCODER_BUS},
     {RELEASE, BRAKE, {40}, ENCODER_BUS},

@@ -71,6 +71,12 @@ mod raw {
         pub count: u32,
     }
 
+    #[repr(C)]
+    pub struct Saved {
+        pub refusal: u32,
+        pub length: u32,
+    }
+
     #[rustfmt::skip]
     #[link(name = "norakkeun", kind = "static")]
     extern "C" {
@@ -90,6 +96,8 @@ mod raw {
         pub fn norakkeun_record_ask(job: u32, tick: Tick, set: u64, room: *mut u8, length: usize) -> u32;
         pub fn norakkeun_record_release(job: u32, tick: Tick, set: u64, room: *mut u8, length: usize) -> u32;
         pub fn norakkeun_record_complete(job: u32, tick: Tick, room: *mut u8, length: usize) -> u32;
+        pub fn norakkeun_save(table: Table, room: *mut u8, length: usize) -> Saved;
+        pub fn norakkeun_load(file: *const u8, length: usize) -> Told;
     }
 }
 
@@ -97,6 +105,7 @@ use raw::{Report, Table, Tick, Told};
 
 const JOBS: usize = 64;
 const RECORD: usize = 14;
+const LONGEST_FILE: usize = 2647;
 
 const TOKENS: u32 = 2;
 const RESOURCES: u32 = 3;
@@ -224,6 +233,22 @@ impl Arbiter {
         let count = told.count as usize;
         unless_refused(told.refusal, Jobs { list, count })
     }
+
+    /// The table's service file, or the refusal.
+    fn save(&self) -> Result<Vec<u8>, u32> {
+        let mut room = vec![0; LONGEST_FILE];
+        // SAFETY: the room is lent for the call alone, with its own length; any table may be handed in.
+        let saved = unsafe { raw::norakkeun_save(self.table, room.as_mut_ptr(), LONGEST_FILE) };
+        room.truncate(saved.length as usize);
+        unless_refused(saved.refusal, room)
+    }
+
+    /// An arbiter that goes on where the file was made.
+    fn load(file: &[u8]) -> Result<Arbiter, u32> {
+        // SAFETY: the file is lent for the call alone, with its own length; any bytes may be handed in.
+        let told = unsafe { raw::norakkeun_load(file.as_ptr(), file.len()) };
+        unless_refused(told.refusal, Arbiter { table: told.table })
+    }
 }
 
 fn said(told: &Told, list: [u8; JOBS]) -> Result<Said, u32> {
@@ -240,18 +265,19 @@ fn said(told: &Told, list: [u8; JOBS]) -> Result<Said, u32> {
     }
 }
 
-/// What comes in: events, which change the table, and questions, which do not.
+/// What comes in: events, which change the table, and questions, which do not; and a spare drive takes over.
 enum Message {
     Event(Event),
     Report(u32),
     Overdue(Tick),
+    TakeOver,
 }
 
 /// What came in that night. A drive would take it from a queue.
 #[rustfmt::skip]
-fn night() -> [Message; 22] {
+fn night() -> [Message; 23] {
     use Event::{Ask, Beat, Complete, Open, Release};
-    use Message::{Event as E, Overdue, Report};
+    use Message::{Event as E, Overdue, Report, TakeOver};
     [
         E(Beat(Tick(2147483647))), // after 24.8 days
         E(Beat(Tick(4294967000))), // on day fifty, 296 ms before the wrap
@@ -267,6 +293,7 @@ fn night() -> [Message; 22] {
         E(Ask(DISPLAY, Tick(6), ENCODER_BUS)), // refused: no token
         Overdue(Tick(6)), // the first test after the wrap: still the brake
         Report(BRAKE),
+        TakeOver, // with the brake still waiting
         E(Complete(CURRENT_CONTROL, Tick(20))),
         E(Ask(DISPLAY, Tick(21), ENCODER_BUS)),
         E(Release(BRAKE, Tick(40), ENCODER_BUS)),
@@ -331,6 +358,10 @@ fn run(recording: &mut File) -> io::Result<()> {
             }
             Message::Report(job) => eprintln!("{}", reported(arbiter.report(job))),
             Message::Overdue(tick) => eprintln!("{}", late(arbiter.overdue(tick))),
+            Message::TakeOver => match arbiter.save().and_then(|file| Arbiter::load(&file)) {
+                Ok(spare) => arbiter = spare,
+                Err(refusal) => eprintln!("no {refusal}"),
+            },
         }
     }
     let live = arbiter
