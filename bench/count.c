@@ -1,7 +1,8 @@
 // Counts the instructions of a program under QEMU's user-mode emulation, all of them and those outside printing:
-// qemu-x86_64 -d plugin -D FILE -plugin count.so,skip=NAME,..,back=NAME,.. PROGRAM. FILE gets two numbers.
+// qemu-x86_64 -d plugin -D FILE -plugin count.so,skip=NAME,..,back=NAME,..,keep=NAME,.. PROGRAM. FILE gets two numbers.
 // Where a function is entered whose name contains a NAME of skip, counting pauses until one of back is reached: so all
-// that printing calls is left out with it, library code too, which has no name here.
+// that printing calls is left out with it, library code too, which has no name here. A function of keep, like one that
+// is not named, is counted where its caller is. If a function's name contains several NAMEs, the first of them counts.
 // OFFERS is the version of what QEMU offers to plugins: 1 up to QEMU 8, then 2. The few declarations below stand for
 // qemu-plugin.h, which Debian does not install.
 #include <inttypes.h>
@@ -22,6 +23,7 @@ extern const char *qemu_plugin_insn_symbol(const struct qemu_plugin_insn *);
 extern void qemu_plugin_outs(const char *);
 
 enum { NAMES = 16, OTHER = 0, BACK = 1, SKIP = 2 };
+enum { KIND = 5 }; // the length of skip=, back= and keep=
 static const char *names[NAMES];
 static int kinds[NAMES];
 static int known;
@@ -61,11 +63,15 @@ static void ended(plugin_id id, void *none) {
     qemu_plugin_outs(text);
 }
 
+static int kind(const char *word) {
+    return strncmp(word, "skip=", KIND) == 0 ? SKIP : strncmp(word, "back=", KIND) == 0 ? BACK : OTHER;
+}
+
 __attribute__((visibility("default"))) int qemu_plugin_install(plugin_id id, const void *info, int n, char **words) {
     (void)info;
     for (int i = 0; i < n && known < NAMES; i++) {
-        kinds[known] = strncmp(words[i], "skip=", 5) == 0 ? SKIP : BACK;
-        names[known++] = strdup(words[i] + 5); // back= is as long
+        kinds[known] = kind(words[i]);
+        names[known++] = strdup(words[i] + KIND);
     }
     qemu_plugin_register_vcpu_tb_trans_cb(id, translated);
     qemu_plugin_register_atexit_cb(id, ended, NULL);

@@ -20,6 +20,7 @@ static ucontext_t caller, callee;
 static norakkeun_table table;
 static uint32_t refusal;
 static uint8_t list[NORAKKEUN_JOBS];
+static uint8_t file[NORAKKEUN_LONGEST_FILE];
 
 /* ---- one function for each call, so that only its own frame stands above it */
 
@@ -45,6 +46,11 @@ static void report(void) { refusal = norakkeun_report(table, 63).refusal; }
 static void overdue(void) { refusal = norakkeun_overdue(table, (norakkeun_tick){100}, list, sizeof list).refusal; }
 
 static void record_open(void) { refusal = norakkeun_record_open(63, (norakkeun_tick){100}, 1, list, sizeof list); }
+
+static void save(void) { refusal = norakkeun_save(table, file, sizeof file).refusal; }
+
+/* Of the file that was saved before. */
+static void load(void) { refusal = norakkeun_load(file, sizeof file).refusal; }
 
 /* ---- the measurement */
 
@@ -102,6 +108,7 @@ int main(void)
     printf("size told %zu\n", sizeof(norakkeun_told));
     printf("size job_report %zu\n", sizeof(norakkeun_job_report));
     printf("size late_jobs %zu\n", sizeof(norakkeun_late_jobs));
+    printf("size saved %zu\n", sizeof(norakkeun_saved));
     measure("start", start);
     fill(NORAKKEUN_JOBS - 1);
     measure("open", open);
@@ -113,5 +120,7 @@ int main(void)
     measure("report", report);
     measure("overdue", overdue);
     measure("record_open", record_open);
+    measure("save", save);
+    measure("load", load);
     return 0;
 }

@@ -170,6 +170,19 @@ impl Out {
     }
 
     #[inline(never)]
+    pub fn saved(&mut self, number: u64, saved: &Result<usize, u8>, room: &[u8]) -> io::Result<()> {
+        self.number(number);
+        self.text(b" ");
+        match saved {
+            Err(refusal) => self.refusal(*refusal),
+            Ok(length) => self.counted(b"saved ", *length),
+        }
+        self.text(b"\n");
+        self.list(room);
+        self.make_room()
+    }
+
+    #[inline(never)]
     pub fn list(&mut self, list: &[u8]) {
         self.text(b"list");
         self.bytes(list);

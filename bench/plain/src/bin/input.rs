@@ -3,6 +3,7 @@
 //! ```text
 //! input case CALL LIVE ORDER COUNT    COUNT times the same accepted call
 //! input around CALL LIVE ORDER COUNT  the same, but a record is written instead, which is refused
+//! input file CALL LIVE ORDER COUNT    COUNT times the same `save`, with room for the longest file, or `load`
 //! input records CALLS LIVE COUNT      a recording: LIVE requests, then COUNT records of these calls in turn
 //! ```
 //!
@@ -16,6 +17,11 @@ const LIMIT: u64 = 1000;
 /// Past the first wrap of the tick.
 const TIME: u64 = 5_000_000_000;
 const WRITE_OPEN: u8 = 9;
+/// Of a service file's fields, in bits.
+const HEAD_WIDTHS: [u32; 8] = [4, 6, 6, 32, 63, 63, 7, 3];
+const ROW_WIDTHS: [u32; 7] = [6, 63, 64, 64, 64, 63, 4];
+/// Bytes of the service file of a table in which every job has a request.
+const LONGEST_FILE: u16 = 23 + 41 * JOBS as u16;
 
 type Row = [u64; 5];
 
@@ -101,14 +107,9 @@ fn table(order: &str, live: usize) -> Table {
     }
 }
 
-fn case(call: &Call, table: &Table) -> Vec<u8> {
+fn table_bytes(table: &Table) -> Vec<u8> {
     let [tokens, resources, limit, time, last] = table.numbers;
-    let mut bytes = vec![call.number];
-    bytes.extend((call.job as u32).to_be_bytes());
-    bytes.extend(((TIME + 10) as u32).to_be_bytes());
-    bytes.extend(call.set.to_be_bytes());
-    bytes.extend(call.length.to_be_bytes());
-    bytes.extend([tokens as u8, resources as u8]);
+    let mut bytes = vec![tokens as u8, resources as u8];
     bytes.extend((limit as u32).to_be_bytes());
     bytes.extend(time.to_be_bytes());
     bytes.extend(last.to_be_bytes());
@@ -116,6 +117,56 @@ fn case(call: &Call, table: &Table) -> Vec<u8> {
         bytes.extend(number.to_be_bytes());
     }
     bytes
+}
+
+fn case(call: &Call, table: &Table) -> Vec<u8> {
+    let mut bytes = vec![call.number];
+    bytes.extend((call.job as u32).to_be_bytes());
+    bytes.extend(((TIME + 10) as u32).to_be_bytes());
+    bytes.extend(call.set.to_be_bytes());
+    bytes.extend(call.length.to_be_bytes());
+    bytes.extend(table_bytes(table));
+    bytes
+}
+
+/// Numbers of these widths in bits, which make whole bytes together, most significant bit first.
+fn packed(widths: &[u32], numbers: &[u64]) -> Vec<u8> {
+    let mut bits = Vec::new();
+    for (&width, number) in widths.iter().zip(numbers) {
+        bits.extend((0..width).rev().map(|at| (number >> at & 1) as u8));
+    }
+    let byte = |bits: &[u8]| bits.iter().fold(0, |byte, bit| byte << 1 | bit);
+    bits.chunks(8).map(byte).collect()
+}
+
+/// The table's service file.
+fn file(order: &str, live: usize, table: &Table) -> Vec<u8> {
+    let [tokens, resources, limit, time, last] = table.numbers;
+    let (t, r, count) = (tokens - 1, resources - 1, live as u64);
+    let mut bytes = packed(&HEAD_WIDTHS, &[1, t, r, limit, time, last, count, 0]);
+    for job in (0..live).map(|place| job_at(order, place)) {
+        let [turn, declared, held, asked, since] = table.rows[job];
+        let row = [job as u64, turn, declared, held, asked, since, 0];
+        bytes.extend(packed(&ROW_WIDTHS, &row));
+    }
+    bytes
+}
+
+/// The length is that of the file, or of the room that is lent for it.
+fn service_case(call: &str, order: &str, live: usize) -> Option<Vec<u8>> {
+    let table = table(order, live);
+    let (number, length, rest) = match call {
+        "load" => {
+            let file = file(order, live, &table);
+            (0, file.len() as u16, file)
+        }
+        "save" => (1, LONGEST_FILE, table_bytes(&table)),
+        _ => return None,
+    };
+    let mut bytes = vec![number];
+    bytes.extend(length.to_be_bytes());
+    bytes.extend(rest);
+    Some(bytes)
 }
 
 fn record(kind: u16, job: usize, tick: u32, set: u64) -> Vec<u8> {
@@ -157,6 +208,10 @@ fn made(words: &[&str]) -> Option<Vec<u8>> {
             }
             let table = table(order, call.live);
             Some(case(&call, &table).repeat(number(count)?))
+        }
+        ["file", name, live, order, count] => {
+            let case = service_case(name, order, number(live)?)?;
+            Some(case.repeat(number(count)?))
         }
         ["records", calls, live, count] => Some(records(calls, number(live)?, number(count)?)),
         _ => None,
