@@ -4,13 +4,12 @@ ghost use mathlib.Core.Bool.{true};
 ghost use mathlib.Core.Logic.{_↔_};
 ghost use mathlib.Core.Path.{_≡_};
 use arbiter::Table;
+use blocks::Lines;
 use decision::Answer;
 use desk::put_refusal;
 use event::Refusal;
 use libc::STDERR_FILENO;
-use listing::LINE;
 use listing::Replay;
-use listing::Took;
 use page::PAGE;
 use page::Shown;
 use record::SIZE;
@@ -18,19 +17,6 @@ use saving::Saved;
 use stage::Stage;
 use stage::begin;
 use stream::Out;
-
-// The room for a listing, which is not printed here.
-const ROOM: usize = 65536;
-
-// How many bytes are read at once: whole records, as many as their lines have room for.
-const BLOCK: usize = SIZE * (ROOM / LINE);
-
-// Where the replay stands, whether more of the input may follow, and whether a block was not read or not taken.
-struct Taken {
-    replay: Replay,
-    more: bool,
-    failed: bool,
-}
 
 // Whether two words are the same.
 fn same(word: &[u8], other: &[u8]) -> bool
@@ -81,72 +67,21 @@ fn refuse(refusal: Refusal) {
     io::write_all(STDERR_FILENO, &room[..end]);
 }
 
-// Whether a block was taken: there was room for its lines, and a number for each record.
-fn took_all(took: Took) -> bool {
-    match took {
-        Took::NoRoom => false,
-        Took::Full => false,
-        Took::Wrote(_) => true,
-    }
-}
-
-// Takes one block of the input behind an accepted start.
-fn take(replay: Replay, room: &mut [u8]) -> Taken {
-    let mut bytes = [0u8; BLOCK];
-    let piece = stream::fill(&mut bytes);
-    if piece.failed {
-        return Taken {
-            replay,
-            more: false,
-            failed: true,
-        };
-    }
-    let stepped = replay.block(&bytes[..piece.count], room);
-    let behind = stepped.replay;
-    let took = stepped.took;
-    let taken = took_all(took);
-    Taken {
-        replay: behind,
-        more: taken && piece.count == BLOCK,
-        failed: !taken,
-    }
-}
-
-// Takes all blocks behind an accepted start. No input has as many blocks as there are numbers.
-fn take_all(start: Table, room: &mut [u8]) -> Taken {
-    let mut replay = Replay {
+// Writes the service file of the table that the records behind an accepted start lead to, unless one was not read. That
+// table is sound and the room is never too short, so saving refuses nothing.
+fn save_from(start: Table) {
+    let replay = Replay {
         stage: Stage::Going,
         table: start,
         number: 1,
     };
-    let mut more = true;
-    let mut failed = false;
-    let mut left = u64::MAX;
-    while more && 0 < left {
-        let after = take(replay, room);
-        let behind = after.replay;
-        replay = behind;
-        more = after.more;
-        failed = after.failed;
-        left -= 1;
-    }
-    Taken {
-        replay,
-        more,
-        failed,
-    }
-}
-
-// Writes the service file of the table that the records behind an accepted start lead to, unless one was not read. That
-// table is sound and the room is never too short, so saving refuses nothing.
-fn save_from(start: Table) {
     let mut room = io::large_buffer();
-    let taken = take_all(start, &mut room);
-    if taken.failed {
+    let progress = blocks::take_all(replay, Lines::Drop, &mut room);
+    if progress.failed {
         return;
     }
-    let replay = taken.replay;
-    let table = replay.table;
+    let behind = progress.replay;
+    let table = behind.table;
     let saved = saving::save(table, &mut room);
     match saved {
         Saved::No(_) => {}
