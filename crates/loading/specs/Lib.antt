@@ -4,4 +4,5 @@ pub mod LoadingLaws
 pub mod Meaning
 pub mod Prelude
 pub mod Promises
+pub mod ReadBack
 pub mod Taking
