@@ -20,7 +20,7 @@ unfoldable pub use Rattle.laws.specs.Lists.{all, any}
 pub use Rattle.event.specs.declared.clock.Moment.{Moment}
 pub use Rattle.event.specs.declared.clock.Tick.{Tick}
 pub use Rattle.event.specs.declared.events.Event.{Event}
-pub use Rattle.event.specs.declared.events.Event.the-variants.{Ask, Beat, Complete, Open, Release}
+pub use Rattle.event.specs.declared.events.Event.the-variants.{Ask, Beat, Complete, GiveUp, Open, Release}
 pub use Rattle.event.specs.declared.events.Kind.{Kind}
 pub use Rattle.event.specs.declared.events.Known.{Known}
 pub use Rattle.event.specs.declared.events.Parts.{Parts}
