@@ -1,4 +1,4 @@
--- The rows that an opening, an ask and a release write.
+-- The rows that an opening, an ask, a release and a give up write.
 use Prim.Native.Nat.{ℕ, _+_}
 use mathlib.Core.Bool.{Bool, cond}
 use Rattle.laws.specs.Sets.{union, without}
@@ -20,3 +20,8 @@ asking r forbidden time s =
 abbrev pub releasing : Row → ℕ → Row
 releasing r s =
     record { turn = r .turn; declared = r .declared; held = without (r .held) s; asked = r .asked; since = r .since }
+
+-- a give up takes the members out of the declared set too, for good
+abbrev pub givingUp : Row → ℕ → Row
+givingUp r s =
+    record { turn = r .turn; declared = without (r .declared) s; held = without (r .held) s; asked = r .asked; since = r .since }

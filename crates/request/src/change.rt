@@ -1,7 +1,7 @@
 // What an accepted event makes of a row, and which rows a change lets go on.
 ghost use Prim.Native.Nat.{_+_, _-_, _<_, _^_};
 ghost use mathlib.Core.Path.{_≡_};
-ghost use Rattle.request.specs.Change.{asking, opening, releasing};
+ghost use Rattle.request.specs.Change.{asking, givingUp, opening, releasing};
 ghost use Rattle.request.specs.Going.{goesOn, lateSince, wakesBy};
 use laws::sets;
 use rows::Row;
@@ -47,6 +47,15 @@ pub fn released_row(r: Row, set: u64) -> Row
 {
     let mut row = r;
     row.held = sets::without(r.held, set);
+    row
+}
+
+// The row of a request that gives up: the members are released, and no longer declared either.
+pub fn given_up_row(r: Row, set: u64) -> Row
+    ensures { λ x. ⌜ x ≡ givingUp r set ⌝ }
+{
+    let mut row = released_row(r, set);
+    row.declared = sets::without(r.declared, set);
     row
 }
 

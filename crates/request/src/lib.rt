@@ -4,6 +4,7 @@ mod change;
 mod seen;
 
 pub use change::asked_row;
+pub use change::given_up_row;
 pub use change::goes_on;
 pub use change::in_time_from;
 pub use change::is_late;

@@ -13,11 +13,11 @@ use Rattle.rows.specs.declared.row.Row.{Row}
 use Rattle.soundness.specs.Conditions.{askedDeclared, counters, declaresSome, heldDeclared, heldNotAsked, idleConditions, ranges}
 use Rattle.soundness.specs.declared.Bounds.{Bounds}
 
--- what a live row meets by itself
-abbrev pub ownBy : ℕ → ℕ → Row → List Bool
-ownBy R last r =
+-- what a live row meets by itself, with a token or without one
+abbrev pub ownBy : ℕ → ℕ → Row → Bool → List Bool
+ownBy R last r token =
     leb (r .turn .0) last
-    ∷ declaresSome r
+    ∷ declaresSome token r
     ∷ below (r .declared) R
     ∷ heldDeclared r
     ∷ askedDeclared r
@@ -38,7 +38,7 @@ placeBy T time r before forbidden =
 -- the conditions on any row
 abbrev pub rowBy : ℕ → ℕ → ℕ → ℕ → Row → ℕ → (ℕ → Bool) → List Bool
 rowBy T R time last r before forbidden =
-    cond (live r) (ownBy R last r ++ placeBy T time r before forbidden) (idleConditions r)
+    cond (live r) (ownBy R last r (ltb before T) ++ placeBy T time r before forbidden) (idleConditions r)
 
 -- a row is zero if it is idle
 abbrev pub zeroed : Row → Bool
@@ -47,7 +47,7 @@ zeroed r = implies (not (live r)) (holds (idleConditions r))
 -- the conditions on a live row, but for its turn, which is at most the last one given, and its resources, which are below R
 abbrev pub besideBy : ℕ → ℕ → Row → ℕ → (ℕ → Bool) → List Bool
 besideBy T time r before forbidden =
-    declaresSome r
+    declaresSome (ltb before T) r
     ∷ heldDeclared r
     ∷ askedDeclared r
     ∷ heldNotAsked r
@@ -59,9 +59,8 @@ besideBy T time r before forbidden =
     ∷ implies (not (not (ltb before T) || ltb 0 (r .asked))) (eqb (r .since) 0)
     ∷ []
 
--- the same of a row that declares something and has a token, as code tests it: what it holds and asks for is declared, what
--- it holds is apart from what it asks for and from all that is claimed before it, and it waits exactly while it asks for
--- some of that
+-- the same of a row that has a token, as code tests it: what it holds and asks for is declared, what it holds is apart from
+-- what it asks for and from all that is claimed before it, and it waits exactly while it asks for some of that
 abbrev pub holderBy : ℕ → Row → ℕ → Bool
 holderBy time r claims =
     (inside (union (r .held) (r .asked)) (r .declared) && not (meets (r .held) (union (r .asked) claims)))

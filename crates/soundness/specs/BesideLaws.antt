@@ -1,6 +1,6 @@
 -- The conditions on a live row are those beside what stands before it, its turn's and its resources'; and what code tests
 -- of a row, by unions of sets, is what those conditions say one by one.
-use Rattle.soundness.specs.Prelude.{Bool, Row, _&&_, _<_, _||_, _≡_, all, and-false, and-true, arith, below, cond, eqb, eqb-true, false, holds, implies, inside, inside-both, inside-empty, le-leb, leb, live, lt-ltb, ltb, meets, meets-comm, meets-empty, meets-union, ne-eqb, not, or-true, refl, suc, sym, true, union, union-none, zero, ℕ}
+use Rattle.soundness.specs.Prelude.{Bool, Row, _&&_, _<_, _||_, _∙_, _≡_, all, and-assoc, and-false, and-true, ap, arith, below, cond, eqb, eqb-true, false, holds, implies, inside, inside-both, inside-empty, le-leb, leb, live, lt-ltb, ltb, meets, meets-comm, meets-empty, meets-union, ne-eqb, not, or-false, or-true, refl, suc, sym, true, union, union-none, zero, ℕ}
 use Rattle.soundness.specs.Beside.{besideBy, holderBy, rowBy}
 use Rattle.soundness.specs.Conditions.{declaresSome}
 
@@ -29,7 +29,7 @@ pub row-beside :
     ≡ ((leb (r .turn .0) last && below (r .declared) R) && holds (besideBy T time r before forbidden))
 unfolding all
 row-beside T R time last r before forbidden h =
-    rw h (swapped (leb (r .turn .0) last) (declaresSome r) (below (r .declared) R) _)
+    rw h (swapped (leb (r .turn .0) last) (declaresSome (ltb before T) r) (below (r .declared) R) _)
 
 -- ---- What code tests of a row
 
@@ -63,7 +63,7 @@ tokenless declared (suc h) asked claims rest =
     rw (union-none, ne-eqb (suc h) 0 (omega arith), lt-ltb 0 (suc h) (omega arith))
     (failing (inside (suc h) declared) (inside asked declared) (not (meets (suc h) asked)))
 
-module _ (T time : ℕ) (r : Row) (before claims : ℕ) (some : 0 < r .declared) where
+module _ (T time : ℕ) (r : Row) (before claims : ℕ) where
   pub holder-beside : ltb before T ≡ true → holderBy time r claims ≡ holds (besideBy T time r before (meets claims))
   unfolding all
   holder-beside has =
@@ -71,8 +71,8 @@ module _ (T time : ℕ) (r : Row) (before claims : ℕ) (some : 0 < r .declared)
         inside-both (r .held) (r .asked) (r .declared),
         meets-union (r .held) (r .asked) claims,
         meets-comm (r .held) claims,
-        lt-ltb 0 (r .declared) some,
         has,
+        or-true,
         or-true,
         or-true,
         waiting-time (r .asked) (r .since) time (meets claims (r .asked)),
@@ -82,8 +82,11 @@ module _ (T time : ℕ) (r : Row) (before claims : ℕ) (some : 0 < r .declared)
 
   pub tokenless-beside :
       ltb before T ≡ false →
-      (eqb (union (r .held) (r .asked)) 0 && leb (r .since) time) ≡ holds (besideBy T time r before (meets claims))
+      ((ltb 0 (r .declared) && eqb (union (r .held) (r .asked)) 0) && leb (r .since) time)
+      ≡ holds (besideBy T time r before (meets claims))
   unfolding all
   tokenless-beside has =
-      rw (lt-ltb 0 (r .declared) some, has)
-      (tokenless (r .declared) (r .held) (r .asked) claims (leb (r .since) time))
+      rw (has, or-false)
+      (and-assoc (ltb 0 (r .declared)) (eqb (union (r .held) (r .asked)) 0) (leb (r .since) time)
+      ∙ ap (λ (b : Bool). ltb 0 (r .declared) && b)
+      (tokenless (r .declared) (r .held) (r .asked) claims (leb (r .since) time)))

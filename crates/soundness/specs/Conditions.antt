@@ -1,7 +1,7 @@
 -- What numbers and single rows of a sound table meet, condition by condition in the order of document 01, "What a table
 -- holds".
 use Prim.Native.Nat.{ℕ, _-_, _^_}
-use mathlib.Core.Bool.{Bool, not, _&&_}
+use mathlib.Core.Bool.{Bool, not, _&&_, _||_}
 use mathlib.Core.List.{List, [], _∷_}
 use lib.Dec.{eqb, leb, ltb}
 use Rattle.event.specs.Limits.{highest, most}
@@ -28,9 +28,9 @@ counters time last = leb time highest ∷ leb last highest ∷ []
 abbrev pub idleConditions : Row → List Bool
 idleConditions r = eqb (r .declared) 0 ∷ eqb (r .held) 0 ∷ eqb (r .asked) 0 ∷ eqb (r .since) 0 ∷ []
 
--- its declared set is not empty
-abbrev pub declaresSome : Row → Bool
-declaresSome r = ltb 0 (r .declared)
+-- its declared set is not empty, or it has a token: only who has one can have given up all of it
+abbrev pub declaresSome : Bool → Row → Bool
+declaresSome token r = ltb 0 (r .declared) || token
 
 -- held inside declared
 abbrev pub heldDeclared : Row → Bool

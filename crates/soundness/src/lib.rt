@@ -64,11 +64,8 @@ fn holder_sound(r: Row, claims: u64, time: u64) -> bool
 pub fn live_sound(r: Row, s: Standing, tokens: u32, time: u64) -> bool
     ensures { λ b. ⌜ b ≡ holds (besideBy tokens time r (s .ahead) (meets (s .claims))) ⌝ }
 {
-    if r.declared == 0 {
-        return false;
-    }
     if token(s, tokens) {
         return holder_sound(r, s.claims, time);
     }
-    (union(r.held, r.asked) == 0) & (r.since <= time)
+    (0 < r.declared) & (union(r.held, r.asked) == 0) & (r.since <= time)
 }
