@@ -5,11 +5,12 @@ use mathlib.Core.List.{List}
 use Rattle.event.specs.Events.{jobOf, kindOf, setOf, tickOf}
 use Rattle.event.specs.Refusals.{numberOf}
 use Rattle.event.specs.declared.events.Event.{Event}
-use Rattle.event.specs.declared.events.Event.the-variants.{Beat, Open, Ask, Release, Complete}
+use Rattle.event.specs.declared.events.Event.the-variants.{Beat, Open, Ask, Release, Complete, GiveUp}
 use Rattle.laws.specs.Cases.{Case, Outcome, fine, refused}
-use Rattle.request.specs.Change.{asking, opening, releasing}
+use Rattle.request.specs.Change.{asking, givingUp, opening, releasing}
 use Rattle.grounds.specs.Refusals.{calling, eventCases, timeFrom}
 use Rattle.request.specs.declared.seen.Seen.{Seen}
+use Rattle.rows.specs.Order.{idle}
 use Rattle.rows.specs.declared.row.Row.{Row}
 use Rattle.decision.specs.declared.deciding.Change.{Change}
 use Rattle.decision.specs.declared.deciding.Decision.{Decision}
@@ -43,13 +44,14 @@ opens s time token declared =
 abbrev pub keeps : Seen → ℕ → Answer → Row → Change
 keeps s time answer row = record { answer = answer; time = time; last = s .last; row = row }
 
--- what an accepted event changes at this time
+-- what an accepted event changes at this time; how many jobs it wakes is found out along the line
 abbrev pub changeAt : Seen → ℕ → Bool → Bool → Event → Change
 changeAt s time forbidden token (Beat tick) = keeps s time Answers.Done (s .row)
 changeAt s time forbidden token (Open j tick set) = opens s time token set
 changeAt s time forbidden token (Ask j tick set) = keeps s time (askAnswer forbidden) (asking (s .row) forbidden time set)
 changeAt s time forbidden token (Release j tick set) = keeps s time Answers.Done (releasing (s .row) set)
-changeAt s time forbidden token (Complete j tick) = keeps s time Answers.Done (s .row)
+changeAt s time forbidden token (Complete j tick) = keeps s time Answers.Done idle
+changeAt s time forbidden token (GiveUp j tick set) = keeps s time Answers.Done (givingUp (s .row) set)
 
 -- what it changes at the time that its tick gives
 abbrev pub changeFor : Seen → Bool → Bool → Event → Change

@@ -13,18 +13,21 @@ use event::Moment;
 use event::Refusal;
 use request::Seen;
 use request::asked_row;
+use request::given_up_row;
 use request::opened_row;
 use request::released_row;
 use rows::Row;
 use rows::Turn;
+use rows::idle;
 use verdict::ask_verdict;
 use verdict::clock_verdict;
 use verdict::complete_verdict;
+use verdict::give_up_verdict;
 use verdict::open_verdict;
 use verdict::release_verdict;
 
-// What an accepted event changes: the answer, true time, the last turn, and the row of its job. A completion changes no row
-// by itself, and what it wakes is found out along the line.
+// What an accepted event changes: the answer, true time, the last turn, and the row of its job. Whom it wakes, and so the
+// answer to an event that may wake others, is found out along the line.
 pub struct Change {
     pub answer: Answer,
     pub time: u64,
@@ -66,6 +69,7 @@ fn verdict(event: Event, s: Seen) -> Moment
         Event::Ask { job, tick, set } => ask_verdict(s, job, tick, set),
         Event::Release { job, tick, set } => release_verdict(s, job, tick, set),
         Event::Complete { job, tick } => complete_verdict(s, job, tick),
+        Event::GiveUp { job, tick, set } => give_up_verdict(s, job, tick, set),
     }
 }
 
@@ -114,7 +118,8 @@ fn change_at(event: Event, s: Seen, time: u64, forbidden: bool, token: bool) -> 
             asked_row(row, forbidden, time, set),
         ),
         Event::Release { job, tick, set } => keeping(s, time, Answer::Done, released_row(row, set)),
-        Event::Complete { job, tick } => keeping(s, time, Answer::Done, row),
+        Event::Complete { job, tick } => keeping(s, time, Answer::Done, idle()),
+        Event::GiveUp { job, tick, set } => keeping(s, time, Answer::Done, given_up_row(row, set)),
     }
 }
 

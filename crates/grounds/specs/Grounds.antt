@@ -30,9 +30,13 @@ setCases R s = refusing EmptySet (eqb s 0) ∷ refusing NoSuchResource (not (bel
 abbrev pub turnCases : ℕ → List Case
 turnCases last = refusing TurnsSpent (eqb last highest) ∷ []
 
--- of the members of an asked set
+-- of the members of a set that is given up or asked for
+abbrev pub giveUpCases : Row → ℕ → List Case
+giveUpCases r s = refusing NotDeclared (not (inside s (r .declared))) ∷ []
+
+-- and of those of an asked set
 abbrev pub askCases : Row → ℕ → List Case
-askCases r s = refusing NotDeclared (not (inside s (r .declared))) ∷ refusing AlreadyHeld (meets s (r .held)) ∷ []
+askCases r s = refusing AlreadyHeld (meets s (r .held)) ∷ []
 
 -- of the members of a released set
 abbrev pub releaseCases : Row → ℕ → List Case

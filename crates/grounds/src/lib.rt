@@ -5,7 +5,7 @@ ghost use lib.Dec.{eqb};
 ghost use Rattle.event.specs.Clock.{momentOf};
 ghost use Rattle.event.specs.Limits.{highest};
 ghost use Rattle.laws.specs.Cases.{outcome};
-ghost use Rattle.grounds.specs.Grounds.{actorCases, askCases, entryCases, releaseCases, setCases, turnCases};
+ghost use Rattle.grounds.specs.Grounds.{actorCases, askCases, entryCases, giveUpCases, releaseCases, setCases, turnCases};
 ghost use Rattle.grounds.specs.Refusals.{calling, timeFrom};
 use event::HIGHEST;
 use event::JOBS;
@@ -81,16 +81,21 @@ pub fn turn_verdict(last: Turn, time: u64) -> Moment
     Moment::At(time)
 }
 
-// 13, 14: every member is declared, and none is held.
+// 13: every member is declared.
+pub fn give_up_set_verdict(row: Row, set: u64, time: u64) -> Moment
+    ensures { λ r. ⌜ momentOf r ≡ outcome (giveUpCases row set) time ⌝ }
+{
+    if !sets::inside(set, row.declared) {
+        return Moment::No(Refusal::NotDeclared);
+    }
+    Moment::At(time)
+}
+
+// 14: no member is held.
 pub fn ask_set_verdict(row: Row, set: u64, time: u64) -> Moment
     ensures { λ r. ⌜ momentOf r ≡ outcome (askCases row set) time ⌝ }
 {
-    let declared = sets::inside(set, row.declared);
-    let held = sets::meets(set, row.held);
-    if !declared {
-        return Moment::No(Refusal::NotDeclared);
-    }
-    if held {
+    if sets::meets(set, row.held) {
         return Moment::No(Refusal::AlreadyHeld);
     }
     Moment::At(time)

@@ -10,7 +10,7 @@ unfoldable pub use Rattle.laws.specs.Cases.{first, outcome}
 pub use Rattle.laws.specs.Chains.{this}
 pub use Rattle.event.specs.Clock.{momentOf}
 pub use Rattle.event.specs.declared.clock.Moment.{Moment}
-pub use Rattle.event.specs.declared.events.Kind.the-variants.{Complete}
+pub use Rattle.event.specs.declared.events.Kind.the-variants.{Complete, GiveUp}
 pub use Rattle.event.specs.declared.refusal.Refusal.{Refusal}
-pub use Rattle.grounds.specs.Grounds.{actorCases, askCases, entryCases, releaseCases, setCases, turnCases}
+pub use Rattle.grounds.specs.Grounds.{actorCases, askCases, entryCases, giveUpCases, releaseCases, setCases, turnCases}
 pub use Rattle.grounds.specs.Refusals.{calling, eventCases}

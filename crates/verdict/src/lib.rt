@@ -2,7 +2,7 @@
 // only where the earlier ones accept.
 ghost use mathlib.Core.Path.{_≡_};
 ghost use Rattle.event.specs.Clock.{momentOf};
-ghost use Rattle.event.specs.declared.events.Kind.the-variants.{Ask, Beat, Complete, Open, Release};
+ghost use Rattle.event.specs.declared.events.Kind.the-variants.{Ask, Beat, Complete, GiveUp, Open, Release};
 ghost use Rattle.grounds.specs.Refusals.{calling, eventCases, timeFrom};
 ghost use Rattle.laws.specs.Cases.{outcome};
 ghost use Rattle.verdict.specs.Verdicts.{actOnCases, openCases};
@@ -12,6 +12,7 @@ use event::Tick;
 use grounds::actor_verdict;
 use grounds::ask_set_verdict;
 use grounds::enter;
+use grounds::give_up_set_verdict;
 use grounds::release_set_verdict;
 use grounds::set_verdict;
 use grounds::turn_verdict;
@@ -61,7 +62,7 @@ pub fn open_verdict(s: Seen, job: u32, tick: Tick, set: u64) -> Moment
     open_at(s, set, time)
 }
 
-// 3 to 6 and 8 to 12: the refusals of a job that acts on a set, which an ask and a release share.
+// 3 to 6 and 8 to 12: the refusals of a job that acts on a set, which a release and a give up share.
 fn act_on_verdict(s: Seen, job: u32, tick: Tick, set: u64) -> Moment
     ensures { λ r. ⌜ momentOf r ≡ outcome (actOnCases s (calling job (tick .0) set)) (timeFrom (s .time) (tick .0)) ⌝ }
 {
@@ -72,13 +73,24 @@ fn act_on_verdict(s: Seen, job: u32, tick: Tick, set: u64) -> Moment
     set_verdict(s.resources, set, time)
 }
 
-// The refusals of an ask.
-pub fn ask_verdict(s: Seen, job: u32, tick: Tick, set: u64) -> Moment
-    ensures { λ r. ⌜ momentOf r ≡ outcome (eventCases s (calling job (tick .0) set) Ask) (timeFrom (s .time) (tick .0)) ⌝ }
+// The refusals of a give up but for its list.
+pub fn give_up_verdict(s: Seen, job: u32, tick: Tick, set: u64) -> Moment
+    ensures { λ r. ⌜ momentOf r ≡ outcome (eventCases s (calling job (tick .0) set) GiveUp) (timeFrom (s .time) (tick .0)) ⌝ }
 {
     let act = act_on_verdict(s, job, tick, set);
     let Moment::At(time) = act else {
         return act;
+    };
+    give_up_set_verdict(s.row, set, time)
+}
+
+// The refusals of an ask: those of a give up, and then its own.
+pub fn ask_verdict(s: Seen, job: u32, tick: Tick, set: u64) -> Moment
+    ensures { λ r. ⌜ momentOf r ≡ outcome (eventCases s (calling job (tick .0) set) Ask) (timeFrom (s .time) (tick .0)) ⌝ }
+{
+    let declared = give_up_verdict(s, job, tick, set);
+    let Moment::At(time) = declared else {
+        return declared;
     };
     ask_set_verdict(s.row, set, time)
 }

@@ -1,21 +1,20 @@
--- The cases that an ask shares with a release, then those of its members.
-use Rattle.verdict.specs.Prelude.{askCases, calling, needs, refl}
+-- The cases that an ask shares with a give up, then its own.
+use Rattle.verdict.specs.Prelude.{GiveUp, askCases, calling, eventCases, needs, refl}
 use Rattle.verdict.proofs.Verdicts.{by-first, by-second}
-use Rattle.verdict.specs.Verdicts.{actOnCases}
 use Rattle.verdict.proofs.ask_verdict.Statement.{statement}
 use Rattle.verdict.proofs.ask_verdict.Tie as tie
 
 returns : tie.Need-returns
 returns c =
     let a = c .before .before .before .args in
-    by-first (actOnCases (a .s) (calling (a .job) (a .tick .0) (a .set))) (askCases (a .s .row) (a .set)) _
-    (c .before .before .act-on-verdict .ensures) (c .enum-told .given .1)
+    by-first (eventCases (a .s) (calling (a .job) (a .tick .0) (a .set)) GiveUp) (askCases (a .s .row) (a .set)) _
+    (c .before .before .give-up-verdict .ensures) (c .enum-told .given .1)
 
 returns-2 : tie.Need-returns-2
 returns-2 c =
     let a = c .before .before .before .before .before .args in
-    by-second (actOnCases (a .s) (calling (a .job) (a .tick .0) (a .set))) (askCases (a .s .row) (a .set)) _
-    (c .before .before .before .before .act-on-verdict .ensures) (c .before .before .act .given .1) refl
+    by-second (eventCases (a .s) (calling (a .job) (a .tick .0) (a .set)) GiveUp) (askCases (a .s .row) (a .set)) _
+    (c .before .before .before .before .give-up-verdict .ensures) (c .before .before .declared .given .1) refl
     (c .ask-set-verdict .ensures)
 
 pub ask-verdict-spec : {M : Type 1} → statement M

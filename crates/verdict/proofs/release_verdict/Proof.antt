@@ -1,4 +1,4 @@
--- The cases that a release shares with an ask, then that of its members.
+-- The cases that a release shares with a give up, then that of its members.
 use Rattle.verdict.specs.Prelude.{calling, needs, refl, releaseCases}
 use Rattle.verdict.proofs.Verdicts.{by-first, by-second}
 use Rattle.verdict.specs.Verdicts.{actOnCases}

@@ -18,7 +18,10 @@ returns-4 : tie.Need-returns-4
 returns-4 c = rw (c .before .before .before .event3 .given .1, ← c .before .released-row .ensures) (c .keeping3 .ensures)
 
 returns-5 : tie.Need-returns-5
-returns-5 c = rw (c .before .before .event4 .given .1) (c .keeping4 .ensures)
+returns-5 c = rw (c .before .before .before .event4 .given .1, ← c .before .idle .ensures) (c .keeping4 .ensures)
+
+returns-6 : tie.Need-returns-6
+returns-6 c = rw (c .before .before .before .event5 .given .1, ← c .before .given-up-row .ensures) (c .keeping5 .ensures)
 
 pub change-at-spec : {M : Type 1} → statement M
 change-at-spec =
@@ -37,8 +40,13 @@ change-at-spec =
     (λ c κs. search needs)
     (λ c. search needs)
     (λ c κs. search needs)
+    (λ c κs. search needs)
+    (λ c. search needs)
+    (λ c κs. search needs)
+    (λ c κs. search needs)
     returns
     returns-2
     returns-3
     returns-4
-    returns-5)
+    returns-5
+    returns-6)

@@ -18,6 +18,9 @@ returns-4 c = rw (c .before .before .event4 .given .1) (c .release-verdict .ensu
 returns-5 : tie.Need-returns-5
 returns-5 c = rw (c .before .before .event5 .given .1) (c .complete-verdict .ensures)
 
+returns-6 : tie.Need-returns-6
+returns-6 c = rw (c .before .before .event6 .given .1) (c .give-up-verdict .ensures)
+
 pub verdict-spec : {M : Type 1} → statement M
 verdict-spec =
     tie.close
@@ -32,8 +35,11 @@ verdict-spec =
     (λ c κs. search needs)
     (λ c. search needs)
     (λ c κs. search needs)
+    (λ c. search needs)
+    (λ c κs. search needs)
     returns
     returns-2
     returns-3
     returns-4
-    returns-5)
+    returns-5
+    returns-6)
