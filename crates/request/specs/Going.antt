@@ -11,10 +11,10 @@ abbrev pub goesOn : Row → Row
 goesOn r =
     record { turn = r .turn; declared = r .declared; held = union (r .held) (r .asked); asked = 0; since = 0 }
 
--- with this standing, which has a token, a row that has moved up wakes: it asks, or is the last that has a token, and what
--- it asks for is free
-abbrev pub wakesBy : ℕ → Standing → Row → Bool
-wakesBy T s r = (ltb 0 (r .asked) || eqb (T - s .ahead) 1) && not (meets (s .claims) (r .asked))
+-- with this standing, which has a token, a row wakes: it asks for something that is free now; or, where the line moved up, it
+-- is the last that has a token, and so has it new
+abbrev pub wakesBy : Bool → ℕ → Standing → Row → Bool
+wakesBy up T s r = (ltb 0 (r .asked) || (up && eqb (T - s .ahead) 1)) && not (meets (s .claims) (r .asked))
 
 -- a live row, with a token or without one, waits, and since before this time
 abbrev pub lateSince : Bool → ℕ → Row → Bool

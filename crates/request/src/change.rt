@@ -59,16 +59,16 @@ pub fn given_up_row(r: Row, set: u64) -> Row
     row
 }
 
-// Whether a row that moved up to this standing, which has a token, waited and need not wait any more: it asks for what
-// nobody before it declares, or it has had no token up to now.
-pub fn wakes(r: Row, s: Standing, tokens: u32) -> bool
+// Whether a row with this standing, which has a token, waited and need not wait any more: it asks for what nobody before it
+// declares now; or, where the line moved up, it is the last that has a token, and so had none up to now.
+pub fn wakes(r: Row, s: Standing, tokens: u32, up: bool) -> bool
     requires { ⌜ s .ahead < tokens ⌝ }
-    ensures { λ b. ⌜ b ≡ wakesBy tokens s r ⌝ }
+    ensures { λ b. ⌜ b ≡ wakesBy up tokens s r ⌝ }
 {
     if sets::meets(s.claims, r.asked) {
         return false;
     }
-    (0 < r.asked) | (tokens - s.ahead == 1)
+    (0 < r.asked) | (up & (tokens - s.ahead == 1))
 }
 
 // The row of a request that goes on: what it asked for it holds, and it has no waiting time.

@@ -12,7 +12,7 @@ free a b e = rw e (sym (and-true a))
 returns : tie.Need-returns
 returns c =
     let a = c .before .before .args in
-    claimed (ltb 0 (a .r .asked) || eqb (a .tokens - a .s .ahead) 1) (c .before .meets .result) (c .if1 .taken)
+    claimed (ltb 0 (a .r .asked) || (a .up && eqb (a .tokens - a .s .ahead) 1)) (c .before .meets .result) (c .if1 .taken)
     ∙ rw (c .before .meets .ensures)
 
 returns-2 : tie.Need-returns-2
