@@ -1,4 +1,4 @@
--- What is said of completions.
+-- What is said of events that may wake others.
 pub mod Determined
 pub mod Leaving
 pub mod Prelude
@@ -8,3 +8,5 @@ pub mod Sweeping
 pub mod SweptLaws
 pub mod Walking
 pub mod WalkingLaws
+pub mod Written
+pub mod WrittenLaws

@@ -5,7 +5,7 @@ pub use mathlib.Core.List.{List, [], _++_, _∷_, append-nil}
 pub use mathlib.Core.Logic.{_≢_, _⊎_, inl, inr, ⊎-elim}
 pub use mathlib.Core.Path.{_∙_, _≡_, ap, refl, subst, sym}
 pub use native.Mathlib.Decide.{ℕ-discrete}
-pub use native.Mathlib.Nat.{add-zero, le-antisymm, le-of-suc-le-suc, not-suc-le-zero}
+pub use native.Mathlib.Nat.{le-antisymm, le-of-suc-le-suc, not-suc-le-zero}
 pub use native.Mathlib.Numerals.{add-one}
 pub use native.Mathlib.Omega.{arith}
 pub use borrow.Author.Needs.{needs}
@@ -36,9 +36,9 @@ pub use Rattle.rows.specs.Propositions.{Distinct, Each}
 unfoldable pub use Rattle.rows.specs.Propositions.{InTurn}
 pub use Rattle.rows.specs.Stand.{Stands, behind, front}
 pub use Rattle.rows.specs.Sweep.{restedRow, sweptRow, woke}
-unfoldable pub use Rattle.rows.specs.Sweep.{woken}
+unfoldable pub use Rattle.rows.specs.Sweep.{settled, woken}
 pub use Rattle.rows.specs.SweepLaws.{ahead-settled, length-settled, row-settled, swept-idle, turn-settled}
-pub use Rattle.rows.specs.Turns.{distinct-rows, distinct-set, live-within, not-earlier, turn-earlier, waiting-reads}
+pub use Rattle.rows.specs.Turns.{at-set, distinct-rows, distinct-set, live-within, not-earlier, turn-earlier, waiting-reads}
 pub use Rattle.rows.specs.declared.row.Row.{Row}
 pub use Rattle.rows.specs.declared.row.Turn.{Turn}
 pub use Rattle.rows.specs.declared.stand.Standing.{Standing}

@@ -1,4 +1,4 @@
--- What a completion needs to know of the rows of a sound table.
+-- What the sweep needs to know of the rows of a sound table.
 use Prim.Native.Nat.{ℕ, _<_, _≤_}
 use mathlib.Core.List.{List}
 use mathlib.Core.Path.{_≡_}
@@ -7,13 +7,15 @@ use Rattle.rows.specs.Order.{ahead, idle}
 use Rattle.rows.specs.Propositions.{Distinct}
 use Rattle.rows.specs.declared.row.Row.{Row}
 
+-- a row, by the tokens among these rows
+pub record SteadyRow (T : ℕ) (rows : List Row) (r : Row) : Type 0 where
+  -- a row that is no request is zero
+  pub zero : r .turn .0 ≡ 0 → r ≡ idle
+  -- a request without a token asks for nothing
+  pub quiet : 0 < r .turn .0 → T ≤ ahead rows (r .turn .0) → r .asked ≡ 0
+  -- one with a token that asks for nothing has no waiting time
+  pub rests : 0 < r .turn .0 → ahead rows (r .turn .0) < T → r .asked ≡ 0 → r .since ≡ 0
+
 pub record Steady (T : ℕ) (rows : List Row) : Type 0 where
   pub apart : Distinct rows
-  -- a row that is no request is zero
-  pub zero : (j : ℕ) → rowOf rows j .turn .0 ≡ 0 → rowOf rows j ≡ idle
-  -- a request without a token asks for nothing
-  pub quiet : (j : ℕ) → 0 < rowOf rows j .turn .0 → T ≤ ahead rows (rowOf rows j .turn .0) → rowOf rows j .asked ≡ 0
-  -- one with a token that asks for nothing has no waiting time
-  pub rests :
-      (j : ℕ) → 0 < rowOf rows j .turn .0 → ahead rows (rowOf rows j .turn .0) < T → rowOf rows j .asked ≡ 0 →
-      rowOf rows j .since ≡ 0
+  pub each : (j : ℕ) → SteadyRow T rows (rowOf rows j)

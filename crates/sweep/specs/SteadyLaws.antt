@@ -73,4 +73,8 @@ module _ (b : Bounds) (rows : List Row) (sound : soundBy b rows ≡ true) where
         (λ i. not (not (lt-ltb before (b .tokens) token i) || ltb 0 (rests i))))
 
   pub sound-steady : Steady (b .tokens) rows
-  sound-steady = record { apart = sound-distinct; zero = idle-sound; quiet = asked-by-token; rests = since-sound }
+  sound-steady =
+      record {
+        apart = sound-distinct;
+        each = λ j. record { zero = idle-sound j; quiet = asked-by-token j; rests = since-sound j };
+      }

@@ -1,10 +1,8 @@
--- One row after a completion: what the sweep makes of it, and whether it wakes.
-use Rattle.sweep.specs.Prelude.{Bool, List, Row, Standing, Stands, Turn, _&&_, _+_, _-_, _<_, _||_, _∙_, _≡_, _≢_, _≤_, _⊎_, add-zero, ahead, ahead-set, ahead-settled, and-false, and-true, ap, arith, bit, blocked, cond, earlier, either, eq-eqb, eqb, false, getD-set-other, getD-set-same, goesOn, idle, in-way-empty, inWay, inl, inr, keep, length, length-settled, line, live, live-within, lt-ltb, ltb, ltb-false, ltb-true, ne-eqb, not, not-earlier, or-comm, refl, restedRow, row-settled, rowOf, swept-idle, sweptRow, sym, true, turn-earlier, turn-settled, union, union-empty, waiting, waiting-reads, wakesBy, woke, woken, ℕ}
-use Rattle.sweep.specs.Sweeping.{Acts, completedRows}
-use Rattle.sweep.specs.Walking.{vacated}
-use Rattle.sweep.specs.Steady.{Steady}
-use Rattle.sweep.specs.WalkingLaws.{ahead-rises}
-use Rattle.sweep.specs.Leaving.{keep-besides, line-besides, line-turns}
+-- One row after an event that may wake others: what the sweep makes of it, and whether it wakes.
+use Rattle.sweep.specs.Prelude.{Bool, List, Row, Standing, Stands, Turn, _&&_, _-_, _<_, _||_, _∙_, _≡_, _≤_, ahead, ahead-settled, and-false, and-true, ap, arith, blocked, cond, either, eq-eqb, eqb, false, goesOn, idle, in-way-empty, inWay, inl, inr, keep, le-zero, length-settled, line, live, lt-ltb, ltb, ltb-false, ltb-true, ne-eqb, not, or-comm, refl, restedRow, row-settled, rowOf, settled, swept-idle, sweptRow, sym, true, turn-settled, union, union-empty, waiting, waiting-reads, wakesBy, woke, woken, ℕ}
+use Rattle.sweep.specs.Walking.{liveIn}
+use Rattle.sweep.specs.Written.{MovedUp, Written, as-many, gone-behind, one-fewer}
+use Rattle.sweep.specs.Leaving.{keep-within, line-kept, line-turns}
 
 module _ {A : Type 0} (x y : A) where
   chosen : (b : Bool) → b ≡ true → cond b x y ≡ x
@@ -47,157 +45,140 @@ still r asked since =
     let held : union (r .held) (r .asked) ≡ r .held = ap (union (r .held)) asked ∙ union-empty (r .held) in
     λ i. record { turn = r .turn; declared = r .declared; held = held i; asked = sym asked i; since = sym since i }
 
--- ---- Who waited before, with one more ahead or, before the one that has gone, as many
+-- ---- Who waited before
 
--- how many are ahead, before and after one of them has gone or one behind that had a token
-abbrev MovedUp : ℕ → ℕ → ℕ → Type 0
-MovedUp T before after = (before ≡ after + 1) ⊎ ((before ≡ after) × (after + 1 < T))
+-- no fewer stood before it
+no-fewer : {T before after : ℕ} {up : Bool} → MovedUp T before after up → after ≤ before
+no-fewer (one-fewer e) = omega arith
+no-fewer (gone-behind e _) = omega arith
+no-fewer (as-many e) = omega arith
 
--- whoever has a token now waited exactly if it asks or is the last that has one
-waited : (T a c x : ℕ) → c < T → MovedUp T a c → (not (ltb a T) || ltb 0 x) ≡ (ltb 0 x || eqb (T - c) 1)
-waited T a c x token up = or-comm (not (ltb a T)) (ltb 0 x) ∙ ap (λ (b : Bool). ltb 0 x || b) (go up)
+-- whoever has a token now had none exactly if the line moved up and it is the last that has one
+tokenless : {T before after : ℕ} {up : Bool} → after < T → MovedUp T before after up → not (ltb before T) ≡ (up && eqb (T - after) 1)
+tokenless {T} {before} {after} token (one-fewer e) = go (ltb before T) refl
   where
-    go : MovedUp T a c → not (ltb a T) ≡ eqb (T - c) 1
-    go (inl e) = at-last (ltb a T) refl
-      where
-        at-last : (b : Bool) → ltb a T ≡ b → not b ≡ eqb (T - c) 1
-        at-last true h = sym (ne-eqb (T - c) 1 (λ last. omega (arith, ltb-true a T h, last)))
-        at-last false h = sym (eq-eqb (T - c) 1 (omega (arith, ltb-false a T h)))
-    go (inr (p, q)) = ap not (lt-ltb a T (omega arith)) ∙ sym (ne-eqb (T - c) 1 (λ last. omega (arith, last)))
+    go : (b : Bool) → ltb before T ≡ b → not b ≡ eqb (T - after) 1
+    go true h = sym (ne-eqb (T - after) 1 (λ last. omega (arith, ltb-true before T h, last)))
+    go false h = sym (eq-eqb (T - after) 1 (omega (arith, ltb-false before T h)))
+tokenless {T} {before} {after} token (gone-behind e near) =
+    ap not (lt-ltb before T (omega arith)) ∙ sym (ne-eqb (T - after) 1 (λ last. omega (arith, last)))
+tokenless {T} {before} {after} token (as-many e) = ap not (lt-ltb before T (omega arith))
 
--- ---- The rows after job k completed
+-- ---- The rows after the sweep
 
-module _ {T : ℕ} {rows : List Row} {k : ℕ} (steady : Steady T rows) (acts : Acts T rows k) where
-  within : k < length rows
-  within = live-within rows k (acts .alive)
-
-  fewer : (n : ℕ) → ahead (vacated rows k) n + bit (earlier n (rowOf rows k)) ≡ ahead rows n
-  fewer n = ahead-set rows k idle within n ∙ add-zero (ahead rows n)
-
+module _ {up : Bool} {T : ℕ} {rows w : List Row} (written : Written up T rows w) where
   -- whether a row waits after the sweep, told by the rows before it
-  waiting-settled : (r : Row) → waiting T (completedRows T rows k) r ≡ waiting T (vacated rows k) r
-  waiting-settled r = λ i. live r && (not (ltb (ahead-settled T (vacated rows k) (r .turn .0) i) T) || ltb 0 (r .asked))
+  waiting-settled : (r : Row) → waiting T (settled T w) r ≡ waiting T w r
+  waiting-settled r = λ i. live r && (not (ltb (ahead-settled T w (r .turn .0) i) T) || ltb 0 (r .asked))
 
-  -- k's row is idle, and k is not woken
-  pub after-self : (rowOf (completedRows T rows k) k ≡ idle) × (woke T rows (completedRows T rows k) k ≡ false)
-  after-self = (
-    row-settled T (vacated rows k) k ∙ ap (sweptRow T (vacated rows k)) (getD-set-same rows k idle idle within)
-        ∙ swept-idle T (vacated rows k),
-    ap (λ (b : Bool). b && not (waiting T (completedRows T rows k) (rowOf (completedRows T rows k) k)))
-        (waiting-reads T rows (rowOf rows k) (acts .alive) .fails .1 (acts .has-token, acts .asks-nothing)),
-  )
-
-  module _ (j : ℕ) (differs : j ≢ k) where
+  module _ (j : ℕ) where
     abbrev row : Row
-    row = rowOf rows j
+    row = rowOf w j
 
-    after-row : rowOf (completedRows T rows k) j ≡ sweptRow T (vacated rows k) row
-    after-row =
-        row-settled T (vacated rows k) j ∙ ap (sweptRow T (vacated rows k)) (getD-set-other rows k j idle idle differs)
+    -- it has waited
+    abbrev did : Bool
+    did = waiting T rows (rowOf rows j)
 
-    woke-row : woke T rows (completedRows T rows k) j ≡ (waiting T rows row && not (waiting T (vacated rows k) (sweptRow T (vacated rows k) row)))
+    -- its row is as it was written, and it is not woken
+    abbrev Stays : Type 0
+    Stays = (rowOf (settled T w) j ≡ row) × (woke T rows (settled T w) j ≡ false)
+
+    woke-row : woke T rows (settled T w) j ≡ (did && not (waiting T w (sweptRow T w row)))
     woke-row =
-        ap (λ (b : Bool). waiting T rows row && not b)
-        (waiting-settled (rowOf (completedRows T rows k) j) ∙ ap (waiting T (vacated rows k)) after-row)
+        ap (λ (b : Bool). did && not b)
+        (waiting-settled (rowOf (settled T w) j) ∙ ap (waiting T w) (row-settled T w j))
 
-    waits-on :
-        sweptRow T (vacated rows k) row ≡ row → waiting T (vacated rows k) row ≡ true →
-        (rowOf (completedRows T rows k) j ≡ row) × (woke T rows (completedRows T rows k) j ≡ false)
+    waits-on : sweptRow T w row ≡ row → waiting T w row ≡ true → Stays
     waits-on swept waits = (
-      after-row ∙ swept,
-      woke-row ∙ ap (λ (r : Row). waiting T rows row && not (waiting T (vacated rows k) r)) swept
-          ∙ ap (λ (b : Bool). waiting T rows row && not b) waits
-          ∙ and-false (waiting T rows row),
+      row-settled T w j ∙ swept,
+      woke-row ∙ ap (λ (r : Row). did && not (waiting T w r)) swept ∙ ap (λ (b : Bool). did && not b) waits ∙ and-false did,
     )
 
     -- an idle row stays so
-    pub after-idle : row .turn .0 ≡ 0 → rowOf (completedRows T rows k) j ≡ idle
-    after-idle none = after-row ∙ ap (sweptRow T (vacated rows k)) (steady .zero j none) ∙ swept-idle T (vacated rows k)
+    pub after-idle : liveIn w j ≡ false → Stays
+    after-idle none =
+        let zero : row ≡ idle = written .each j .steady .zero (le-zero (ltb-false 0 (row .turn .0) none)) in
+        let did-not : did ≡ false = written .each j .waits ∙ ap (waiting T rows) zero in (
+          row-settled T w j ∙ ap (sweptRow T w) zero ∙ swept-idle T w ∙ sym zero,
+          ap (λ (b : Bool). b && not (waiting T (settled T w) (rowOf (settled T w) j))) did-not,
+        )
 
     module _ (alive : 0 < row .turn .0) where
-      moved-up : MovedUp T (ahead rows (row .turn .0)) (ahead (vacated rows k) (row .turn .0))
-      moved-up = go (ltb (rowOf rows k .turn .0) (row .turn .0)) refl
-        where
-          go :
-              (b : Bool) → ltb (rowOf rows k .turn .0) (row .turn .0) ≡ b →
-              MovedUp T (ahead rows (row .turn .0)) (ahead (vacated rows k) (row .turn .0))
-          go true e =
-              let gone = turn-earlier (row .turn .0) (rowOf rows k) (acts .alive) (ltb-true (rowOf rows k .turn .0) (row .turn .0) e) in
-              inl (omega (arith, fewer (row .turn .0), ap bit gone))
-          go false e =
-              let lower = ltb-false (rowOf rows k .turn .0) (row .turn .0) e in
-              let other : ¬ (row .turn .0 ≡ rowOf rows k .turn .0) = λ same. differs (steady .apart j k alive same) in
-              let stays = not-earlier (row .turn .0) (rowOf rows k) lower in
-              let same : ahead rows (row .turn .0) ≡ ahead (vacated rows k) (row .turn .0) = omega (arith, fewer (row .turn .0), ap bit stays) in
-              let more = ahead-rises rows j (rowOf rows k .turn .0) alive (omega arith) in
-              inr (same, omega (arith, acts .has-token))
-
       -- from the place T on nothing changes
-      pub after-far :
-          T ≤ ahead (vacated rows k) (row .turn .0) →
-          (rowOf (completedRows T rows k) j ≡ row) × (woke T rows (completedRows T rows k) j ≡ false)
+      pub after-far : T ≤ ahead w (row .turn .0) → Stays
       after-far far =
-          let quiet = steady .quiet j alive (omega (arith, fewer (row .turn .0))) in
-          let swept = swept-far T (vacated rows k) row alive quiet far in
+          let quiet = written .each j .steady .quiet alive (omega (arith, no-fewer (written .moved j alive))) in
+          let swept = swept-far T w row alive quiet far in
           waits-on (swept .0) (swept .1)
 
-      module _ (s : Standing) (stands : Stands (vacated rows k) (row .turn .0) s) (token : s .ahead < T) where
+      module _ (s : Standing) (stands : Stands w (row .turn .0) s) (token : s .ahead < T) where
         -- before it, whoever wakes goes on, and everybody else stays as it is
         pub after-near :
-            (rowOf (completedRows T rows k) j ≡ cond (wakesBy T s row) (goesOn row) row)
-            × (woke T rows (completedRows T rows k) j ≡ wakesBy T s row)
-        after-near = go (blocked (vacated rows k) (row .turn .0) (row .asked)) refl
+            (rowOf (settled T w) j ≡ cond (wakesBy up T s row) (goesOn row) row)
+            × (woke T rows (settled T w) j ≡ wakesBy up T s row)
+        after-near = go (blocked w (row .turn .0) (row .asked)) refl
           where
-            token-now : ahead (vacated rows k) (row .turn .0) < T
+            token-now : ahead w (row .turn .0) < T
             token-now = omega (arith, stands .before)
 
-            moved : Bool
-            moved = ltb 0 (row .asked) || eqb (T - s .ahead) 1
+            may : Bool
+            may = ltb 0 (row .asked) || (up && eqb (T - s .ahead) 1)
 
             -- where Q3 allows what it asks for, it wakes exactly if it waited
-            waited-if : blocked (vacated rows k) (row .turn .0) (row .asked) ≡ false → waiting T rows row ≡ wakesBy T s row
+            waited-if : blocked w (row .turn .0) (row .asked) ≡ false → did ≡ wakesBy up T s row
             waited-if e =
-                ap (λ (b : Bool). b && (not (ltb (ahead rows (row .turn .0)) T) || ltb 0 (row .asked))) (lt-ltb 0 (row .turn .0) alive)
-                ∙ waited T (ahead rows (row .turn .0)) (ahead (vacated rows k) (row .turn .0)) (row .asked) token-now moved-up
-                ∙ ap (λ (n : ℕ). ltb 0 (row .asked) || eqb (T - n) 1) (sym (stands .before))
-                ∙ sym (and-true moved)
-                ∙ ap (λ (b : Bool). moved && not b) (sym (stands .forbids (row .asked) ∙ e))
+                written .each j .waits
+                ∙ ap (λ (b : Bool). b && (not (ltb (ahead rows (row .turn .0)) T) || ltb 0 (row .asked))) (lt-ltb 0 (row .turn .0) alive)
+                ∙ or-comm (not (ltb (ahead rows (row .turn .0)) T)) (ltb 0 (row .asked))
+                ∙ ap (λ (b : Bool). ltb 0 (row .asked) || b) (tokenless token-now (written .moved j alive))
+                ∙ ap (λ (n : ℕ). ltb 0 (row .asked) || (up && eqb (T - n) 1)) (sym (stands .before))
+                ∙ sym (and-true may)
+                ∙ ap (λ (b : Bool). may && not b) (sym (stands .forbids (row .asked) ∙ e))
 
             -- and else it did not wait, and going on changes nothing
-            goes : (b : Bool) → waiting T rows row ≡ b → goesOn row ≡ cond b (goesOn row) row
+            goes : (b : Bool) → did ≡ b → goesOn row ≡ cond b (goesOn row) row
             goes true h = refl
             goes false h =
-                let quiet = waiting-reads T rows row alive .fails .0 h in
-                still row (quiet .1) (steady .rests j alive (quiet .0) (quiet .1))
+                let quiet = waiting-reads T rows row alive .fails .0 (sym (written .each j .waits) ∙ h) in
+                still row (quiet .1) (written .each j .steady .rests alive (quiet .0) (quiet .1))
 
             go :
-                (b : Bool) → blocked (vacated rows k) (row .turn .0) (row .asked) ≡ b →
-                (rowOf (completedRows T rows k) j ≡ cond (wakesBy T s row) (goesOn row) row)
-                × (woke T rows (completedRows T rows k) j ≡ wakesBy T s row)
+                (b : Bool) → blocked w (row .turn .0) (row .asked) ≡ b →
+                (rowOf (settled T w) j ≡ cond (wakesBy up T s row) (goesOn row) row)
+                × (woke T rows (settled T w) j ≡ wakesBy up T s row)
             go true e =
-                let swept = swept-blocked T (vacated rows k) row alive e in
+                let swept = swept-blocked T w row alive e in
                 let stays = waits-on (swept .0) (swept .1) in
-                let not-woken : wakesBy T s row ≡ false =
-                ap (λ (b : Bool). moved && not b) (stands .forbids (row .asked) ∙ e) ∙ and-false moved in
-                (stays .0 ∙ sym (other (goesOn row) row (wakesBy T s row) not-woken), stays .1 ∙ sym not-woken)
+                let not-woken : wakesBy up T s row ≡ false =
+                ap (λ (b : Bool). may && not b) (stands .forbids (row .asked) ∙ e) ∙ and-false may in
+                (stays .0 ∙ sym (other (goesOn row) row (wakesBy up T s row) not-woken), stays .1 ∙ sym not-woken)
             go false e =
-                let swept = swept-free T (vacated rows k) row alive e token-now in
-                let rests = waiting-reads T (vacated rows k) (goesOn row) alive .fails .1 (token-now, refl) in (
-                  after-row ∙ swept ∙ goes (wakesBy T s row) (waited-if e),
-                  woke-row ∙ ap (λ (r : Row). waiting T rows row && not (waiting T (vacated rows k) r)) swept
-                      ∙ ap (λ (b : Bool). waiting T rows row && not b) rests
-                      ∙ and-true (waiting T rows row)
+                let swept = swept-free T w row alive e token-now in
+                let rests = waiting-reads T w (goesOn row) alive .fails .1 (token-now, refl) in (
+                  row-settled T w j ∙ swept ∙ goes (wakesBy up T s row) (waited-if e),
+                  woke-row ∙ ap (λ (r : Row). did && not (waiting T w r)) swept ∙ ap (λ (b : Bool). did && not b) rests
+                      ∙ and-true did
                       ∙ waited-if e,
                 )
 
-  -- ---- The list
+  -- ---- The line and the list
+
+  -- whoever is live now has the turn that it had
+  turns-kept : (j : ℕ) → rowOf w j .turn .0 ≡ cond (liveIn w j) (rowOf rows j .turn .0) 0
+  turns-kept j = go (liveIn w j) refl
+    where
+      go : (b : Bool) → liveIn w j ≡ b → rowOf w j .turn .0 ≡ cond b (rowOf rows j .turn .0) 0
+      go true e = written .each j .turn (ltb-true 0 (rowOf w j .turn .0) e)
+      go false e = le-zero (ltb-false 0 (rowOf w j .turn .0) e)
+
+  -- the line now is that of before without those who have gone
+  pub line-now : line w ≡ keep (liveIn w) (line rows)
+  line-now = line-kept (liveIn w) rows w turns-kept (written .long)
 
   -- who wakes, in order of turn, is found along the line before
-  pub woken-line : woken T rows (completedRows T rows k) ≡ keep (woke T rows (completedRows T rows k)) (line rows)
+  pub woken-line : woken T rows (settled T w) ≡ keep (woke T rows (settled T w)) (line rows)
   unfolding woken
   woken-line =
-      ap (keep (woke T rows (completedRows T rows k)))
-      (line-turns (completedRows T rows k) (vacated rows k) (λ j. ap (λ (t : Turn). t .0) (turn-settled T (vacated rows k) j))
-      (length-settled T (vacated rows k))
-      ∙ line-besides rows k within)
-      ∙ keep-besides (woke T rows (completedRows T rows k)) k (line rows) (after-self .1)
+      ap (keep (woke T rows (settled T w)))
+      (line-turns (settled T w) w (λ j. ap (λ (t : Turn). t .0) (turn-settled T w j)) (length-settled T w) ∙ line-now)
+      ∙ keep-within (woke T rows (settled T w)) (liveIn w) (λ j none. after-idle j none .1) (line rows)

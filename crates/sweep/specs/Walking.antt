@@ -3,10 +3,9 @@ use Prim.Native.Nat.{ℕ, _<_}
 use mathlib.Core.Bool.{Bool, not}
 use mathlib.Core.List.{List, [], _∷_}
 use lib.Dec.{eqb}
-use lib.ListN.{set}
 use Rattle.line.specs.Along.{Along}
 use Rattle.rows.specs.Line.{rowOf}
-use Rattle.rows.specs.Order.{idle}
+use Rattle.rows.specs.Order.{live}
 use Rattle.rows.specs.Propositions.{InTurn}
 use Rattle.rows.specs.declared.row.Row.{Row}
 use Rattle.rows.specs.declared.stand.Standing.{Standing}
@@ -27,6 +26,6 @@ pub record Walk (rows : List Row) (s : Standing) (left : List ℕ) : Type 0 wher
 abbrev pub besides : ℕ → ℕ → Bool
 besides k j = not (eqb k j)
 
--- the rows with job k's row idle
-abbrev pub vacated : List Row → ℕ → List Row
-vacated rows k = set rows k idle
+-- every job that has a request
+abbrev pub liveIn : List Row → ℕ → Bool
+liveIn rows j = live (rowOf rows j)

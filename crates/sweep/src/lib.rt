@@ -1,5 +1,5 @@
-// Along the line: what a completion makes of the rows, and whom it wakes.
-mod completion;
+// Along the line: what an event that may wake others makes of the rows, and whom it wakes.
+mod settling;
 
-pub use completion::Swept;
-pub use completion::completed;
+pub use settling::Swept;
+pub use settling::settle;
