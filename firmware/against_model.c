@@ -22,9 +22,9 @@ typedef char job_report_is_32_bytes[sizeof(norakkeun_job_report) == 32 ? 1 : -1]
 typedef char late_jobs_is_8_bytes[sizeof(norakkeun_late_jobs) == 8 ? 1 : -1];
 typedef char saved_is_8_bytes[sizeof(norakkeun_saved) == 8 ? 1 : -1];
 
-/* The calls by their numbers in a case. In a record the events have the same numbers, and a start has 5. */
-enum { BEAT, OPEN, ASK, RELEASE, COMPLETE, REPORT, OVERDUE, START, WRITE_BEAT, WRITE_START = 13 };
-enum { START_RECORD = 5, TABLE_BYTES = 22 + 40 * NORAKKEUN_JOBS, CASE_BYTES = 19 + TABLE_BYTES, LONGEST_LIST = 65535 };
+/* The calls by their numbers in a case. In a record the events have the same numbers, but a start has 5 and a give up 6. */
+enum { BEAT, OPEN, ASK, RELEASE, COMPLETE, REPORT, OVERDUE, START, WRITE_BEAT, WRITE_START = 13, GIVE_UP, WRITE_GIVE_UP };
+enum { START_RECORD = 5, GIVE_UP_RECORD, TABLE_BYTES = 22 + 40 * NORAKKEUN_JOBS, CASE_BYTES = 19 + TABLE_BYTES, LONGEST_LIST = 65535 };
 
 /* The first byte of a service case. */
 enum { LOAD, SAVE };
@@ -50,6 +50,7 @@ static norakkeun_told event(call c, uint8_t *list, size_t length)
     case ASK: return norakkeun_ask(c.table, c.job, c.tick, c.set);
     case RELEASE: return norakkeun_release(c.table, c.job, c.tick, c.set);
     case COMPLETE: return norakkeun_complete(c.table, c.job, c.tick, list, length);
+    case GIVE_UP: return norakkeun_give_up(c.table, c.job, c.tick, c.set, list, length);
     default: return norakkeun_start(c.table.tokens, c.table.resources, c.tick, c.table.limit);
     }
 }
@@ -62,6 +63,7 @@ static uint32_t record(call c, uint8_t *room, size_t length)
     case ASK: return norakkeun_record_ask(c.job, c.tick, c.set, room, length);
     case RELEASE: return norakkeun_record_release(c.job, c.tick, c.set, room, length);
     case COMPLETE: return norakkeun_record_complete(c.job, c.tick, room, length);
+    case GIVE_UP: return norakkeun_record_give_up(c.job, c.tick, c.set, room, length);
     default: return norakkeun_record_start(c.table.tokens, c.table.resources, c.tick, c.table.limit, room, length);
     }
 }
@@ -89,7 +91,7 @@ static uint32_t decode(const uint8_t *bytes, size_t length, call *c)
         return NORAKKEUN_WRONG_LENGTH;
     }
     *c = (call){.number = take(bytes, &at, 3)};
-    if (c->number > START_RECORD) {
+    if (c->number > GIVE_UP_RECORD) {
         return NORAKKEUN_UNKNOWN_KIND;
     }
     if (c->number == START_RECORD) {
@@ -106,6 +108,7 @@ static uint32_t decode(const uint8_t *bytes, size_t length, call *c)
         c->tick.count = (uint32_t)take(bytes, &at, 32);
         c->set = take(bytes, &at, 64);
         zero |= c->number == BEAT ? c->job | c->set : c->number == COMPLETE ? c->set : 0;
+        c->number = c->number == GIVE_UP_RECORD ? GIVE_UP : c->number;
     }
     return zero == 0 ? NORAKKEUN_ACCEPTED : NORAKKEUN_BIT_SET;
 }
@@ -293,11 +296,21 @@ static void print_written(uint32_t refusal)
     }
 }
 
+/* The call of which this one writes the record, or itself if it writes none. */
+static uint64_t written_by(uint64_t number)
+{
+    switch (number) {
+    case WRITE_START: return START;
+    case WRITE_GIVE_UP: return GIVE_UP;
+    default: return number >= WRITE_BEAT && number < WRITE_START ? number - WRITE_BEAT : number;
+    }
+}
+
 /* Makes a case's call and prints the answer and all that the call left behind. */
 static void answer(call c, uint8_t *list, size_t length)
 {
-    if (c.number >= WRITE_BEAT) {
-        c.number = c.number == WRITE_START ? START : c.number - WRITE_BEAT;
+    if (written_by(c.number) != c.number) {
+        c.number = written_by(c.number);
         print_written(record(c, list, length));
         print_list(list, length);
         return;
@@ -311,7 +324,7 @@ static void answer(call c, uint8_t *list, size_t length)
         norakkeun_told told = event(c, list, length);
 
         print_event(told);
-        if (c.number == COMPLETE) {
+        if (c.number == COMPLETE || c.number == GIVE_UP) {
             print_list(list, length);
         }
         c.table = told.table;
@@ -336,7 +349,7 @@ static void probe(void)
     size_t length;
     call c;
 
-    while ((length = fread(bytes, 1, sizeof bytes, stdin)) == sizeof bytes && bytes[0] <= WRITE_START) {
+    while ((length = fread(bytes, 1, sizeof bytes, stdin)) == sizeof bytes && bytes[0] <= WRITE_GIVE_UP) {
         length = decode_case(bytes, &c);
         fill(list, length);
         printf("%lu ", ++number);

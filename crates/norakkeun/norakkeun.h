@@ -26,7 +26,7 @@ enum {
     NORAKKEUN_GRANTED = 2, /* ask: the whole set is held */
     NORAKKEUN_WAIT = 3,    /* open: no token yet; ask: the whole set is asked and comes in one step later */
     NORAKKEUN_DONE = 4,    /* start, beat, release, load */
-    NORAKKEUN_WOKE = 5     /* complete: as many jobs as `woken` says stand at the front of the lent list */
+    NORAKKEUN_WOKE = 5     /* complete, give up: as many jobs as `woken` says stand at the front of the lent list */
 };
 
 /* The refusals. The lowest number that applies to the call is the one given; of saving and loading the first in the order
@@ -50,7 +50,7 @@ enum {
     NORAKKEUN_NOT_HELD = 15,        /* a member is not held */
     NORAKKEUN_TURNS_SPENT = 16,     /* the last turn given is 2^63-1 */
     NORAKKEUN_WRONG_LENGTH = 17,    /* writing: room under 14 bytes */
-    NORAKKEUN_UNKNOWN_KIND = 18,    /* a replay only: kind 6 or 7 */
+    NORAKKEUN_UNKNOWN_KIND = 18,    /* a replay only: kind 7 */
     NORAKKEUN_BIT_SET = 19,         /* load, and a replay: a bit that must be 0 is 1 */
     NORAKKEUN_START_OUT_OF_PLACE = 20, /* a replay only: start not first, or first not start */
     NORAKKEUN_WRONG_SIZE = 21,      /* load: a service file of the wrong length; save: no room for it */
@@ -100,7 +100,7 @@ typedef struct norakkeun_report_of_job {
     bool token;
     bool waiting;
     uint32_t ahead;  /* live requests of lower turn */
-    uint32_t in_way; /* those of them whose declared set meets its own */
+    uint32_t in_way; /* those of them that still declare something that it still declares */
 } norakkeun_report_of_job;
 
 /* The answer to a report; with a refusal all of the report is 0. */
@@ -133,13 +133,18 @@ norakkeun_told norakkeun_open(norakkeun_table table, uint32_t job, norakkeun_tic
 /* Says granted, and the whole set is held; or wait, and the whole set is asked. */
 norakkeun_told norakkeun_ask(norakkeun_table table, uint32_t job, norakkeun_tick tick, uint64_t set);
 
-/* The members are no longer held. They stay declared, so nobody is woken. */
+/* The members are no longer held. They stay declared, may be asked for again, and nobody is woken. */
 norakkeun_told norakkeun_release(norakkeun_table table, uint32_t job, norakkeun_tick tick, uint64_t set);
 
 /* The row becomes idle. The woken jobs stand at the front of the lent list in order of turn; later entries keep what
  * they had. */
 norakkeun_told norakkeun_complete(norakkeun_table table, uint32_t job, norakkeun_tick tick, uint8_t *woken,
                                   size_t length);
+
+/* The members leave the held and the declared set for good: they are nobody's from here on and cannot be asked for again.
+ * The request keeps its turn and its token. The woken jobs stand at the front of the lent list as with complete. */
+norakkeun_told norakkeun_give_up(norakkeun_table table, uint32_t job, norakkeun_tick tick, uint64_t set, uint8_t *woken,
+                                 size_t length);
 
 /* What is told of the job's request. */
 norakkeun_job_report norakkeun_report(norakkeun_table table, uint32_t job);
@@ -157,6 +162,7 @@ uint32_t norakkeun_record_open(uint32_t job, norakkeun_tick tick, uint64_t set, 
 uint32_t norakkeun_record_ask(uint32_t job, norakkeun_tick tick, uint64_t set, uint8_t *room, size_t length);
 uint32_t norakkeun_record_release(uint32_t job, norakkeun_tick tick, uint64_t set, uint8_t *room, size_t length);
 uint32_t norakkeun_record_complete(uint32_t job, norakkeun_tick tick, uint8_t *room, size_t length);
+uint32_t norakkeun_record_give_up(uint32_t job, norakkeun_tick tick, uint64_t set, uint8_t *room, size_t length);
 
 /* The table's service file at the front of the lent room; later bytes keep what they had. Refused as 3, then 21, and the
  * room is as before. */

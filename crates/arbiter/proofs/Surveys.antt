@@ -1,5 +1,5 @@
 -- What a survey of a table tells of an event.
-use Rattle.arbiter.specs.Prelude.{Bool, Bounds, Completed, Event, Known, List, Listed, Report, Row, Seen, Survey, Surveyed, Swept, Table, _<_, _^_, _∙_, _≡_, about, ahead, ap, calling, inWay, jobOf, lateIn, ltb, meets, outcome, setOf, subst, sym, tickOf, token, true, waiting-by, waitingBy, ℕ}
+use Rattle.arbiter.specs.Prelude.{Bool, Bounds, Event, Known, List, Listed, Report, Row, Seen, Settles, Survey, Surveyed, Swept, Table, _<_, _^_, _∙_, _≡_, about, ahead, ap, calling, inWay, jobOf, lateIn, ltb, meets, outcome, setOf, subst, sym, tickOf, token, true, waiting-by, waitingBy, ℕ}
 use Rattle.arbiter.specs.ChangeLaws.{all-ahead, changeOn, forbids, hasRoom, seen-by, sound-by, sound-last, survey-tells}
 use Rattle.decision.specs.Changes.{changeFor, refusalCases}
 use Rattle.arbiter.specs.Bounded.{boundsOf}
@@ -48,11 +48,11 @@ module _ (b : Bounds) (t : Table) (e : b ≡ boundsOf t) where
   pub surveyed-by : {rows : List Row} {j : ℕ} {v : Survey} → Surveyed b rows j v → Surveyed (boundsOf t) rows j v
   surveyed-by {rows} {j} {v} = subst (λ (x : Bounds). Surveyed x rows j v) e
 
-  pub completed-by :
-      {rows : List Row} {k : ℕ} {before after : List ℕ} {swept : Swept} → Completed (b .tokens) rows k before swept after →
-      Completed (t .tokens) rows k before swept after
-  completed-by {rows} {k} {before} {after} {swept} =
-      subst (λ (x : Bounds). Completed (x .tokens) rows k before swept after) e
+  pub settled-by :
+      {rows : List Row} {k : ℕ} {row : Row} {before after : List ℕ} {swept : Swept} → Settles (b .tokens) rows k row before swept after →
+      Settles (t .tokens) rows k row before swept after
+  settled-by {rows} {k} {row} {before} {after} {swept} =
+      subst (λ (x : Bounds). Settles (x .tokens) rows k row before swept after) e
 
   pub listed-by :
       (rows : List Row) (time : ℕ) {n : ℕ} {before after : List ℕ} → Listed (lateIn (b .tokens) (b .limit) time rows) before n after →

@@ -1,13 +1,14 @@
 -- An event carried out by what it sees of a table is what the event means.
-use Rattle.arbiter.specs.Prelude.{Acts, Ask, Beat, Bool, Case, Change, Complete, Completed, Event, List, Next, Open, Release, Row, Seen, Swept, Table, Tick, [], _++_, _<_, _∙_, _≡_, _≤_, about, acceptance-tells, ahead, ap, arith, case, clear, completedRows, cond, false, fine, jobOf, jobs, le-ltb, le-zero, leb-false, live, ltb-false, ltb-true, none, not, not-false, outcome, outcome-is, outcome-past, over, refl, refused, set, sym, this, true, ℕ}
+use Rattle.arbiter.specs.Prelude.{Acts, Ask, Beat, Bool, Case, Change, Complete, Event, GiveUp, List, Next, NoToken, NotLive, Onward, Open, Refusal, Release, Row, Seen, Settles, Steady, SteadyRow, StillWaiting, Swept, Table, Tick, [], _&&_, _++_, _<_, _∙_, _≡_, _≤_, about, acceptance-tells, actor, ahead, all, among, and-left, and-right, ap, arith, calling, case, clear, clear-named, cond, described, ended, every-kind, false, fine, implied, implies, jobOf, jobs, kindOf, le-ltb, le-zero, leb-false, length, live, lt-ltb, ltb-false, ltb-true, none, not, not-false, ofRole, outcome, outcome-is, outcome-past, over, refl, refusalsOf, refused, set, setOf, settledRows, sound-steady, stayed, sym, this, tickOf, true, true≢false, woken, ℕ}
 use Rattle.arbiter.specs.Answering.{accepted-answers}
 use Rattle.arbiter.specs.Answers.{saidOf, saysWoke}
-use Rattle.arbiter.specs.ChangeLaws.{change-accepted, change-said, changeOn, forbids, hasRoom}
+use Rattle.arbiter.specs.Bounded.{boundsOf}
+use Rattle.arbiter.specs.ChangeLaws.{change-accepted, change-said, changeOn, forbids, hasRoom, loud-accepted, loud-said, sound-by}
 use Rattle.decision.specs.Changes.{changeFor, refusalCases}
 use Rattle.arbiter.specs.Effects.{Does}
 use Rattle.arbiter.specs.Meaning.{accepted, moved, said, timeAt, wakes}
 use Rattle.arbiter.specs.Promises.{Answered}
-use Rattle.arbiter.specs.Refusals.{cases, listCases, seenIn}
+use Rattle.arbiter.specs.Refusals.{applies, cases, listCases, seenIn}
 use Rattle.arbiter.specs.Sound.{rowIn, sound}
 use Rattle.decision.specs.declared.answer.Answer.the-variants as Answers
 
@@ -71,35 +72,82 @@ has-row s (Open j tick set) a x v = leb-false jobs j (clear 4 (refusalCases s (O
 has-row s (Ask j tick set) a x v = leb-false jobs j (clear 4 (refusalCases s (Ask j tick set)) refl (acceptance-tells {B = ℕ} (refusalCases s (Ask j tick set)) a x (sym v) .0))
 has-row s (Release j tick set) a x v = leb-false jobs j (clear 4 (refusalCases s (Release j tick set)) refl (acceptance-tells {B = ℕ} (refusalCases s (Release j tick set)) a x (sym v) .0))
 has-row s (Complete j tick) a x v = leb-false jobs j (clear 4 (refusalCases s (Complete j tick)) refl (acceptance-tells {B = ℕ} (refusalCases s (Complete j tick)) a x (sym v) .0))
+has-row s (GiveUp j tick set) a x v = leb-false jobs j (clear 4 (refusalCases s (GiveUp j tick set)) refl (acceptance-tells {B = ℕ} (refusalCases s (GiveUp j tick set)) a x (sym v) .0))
 
--- ---- Completions
+-- ---- Events that may wake others
 
-module _ (t : Table) (j : ℕ) (tick : Tick) where
-  -- whoever may complete is live, has a token and asks for nothing
+-- of every such event it is asked whether its job may act
+asks-actor : (e : Event) → about e .wakes ≡ true → all (λ r. among r (refusalsOf (about e))) (ofRole actor) ≡ true
+unfolding all
+asks-actor e =
+    implied (about e .wakes) (all (λ r. among r (refusalsOf (about e))) (ofRole actor))
+    (every-kind (λ k. implies (described k .wakes) (all (λ r. among r (refusalsOf (described k))) (ofRole actor))) refl (kindOf e))
+
+module _ (t : Table) (e : Event) (loud : about e .wakes ≡ true) where
+  -- a lent list that is too short is told first
+  pub short-cases : {A : Type 0} (n : ℕ) (a : A) → n < jobs → refused 2 ≡ outcome (cases n t e) a
+  short-cases {A} n a short =
+      let rest = refusalCases (seenIn t (jobOf e)) e in
+      let told : refused 2 ≡ outcome (listCases n ++ rest) a = outcome-is a (this (lt-ltb n jobs short)) in
+      told ∙ ap (λ (b : Bool). outcome (cond b (listCases n) [] ++ rest) a) (sym loud)
+
+  -- whoever may wake others is live, has a token and asks for nothing
   pub may-act :
-      {A : Type 0} (a x : A) → fine x ≡ outcome (refusalCases (seenIn t j) (Complete j tick)) a → Acts (t .tokens) (t .rows) j
-  unfolding case
+      {A : Type 0} (a x : A) → fine x ≡ outcome (refusalCases (seenIn t (jobOf e)) e) a → Acts (t .tokens) (t .rows) (jobOf e)
+  unfolding all
   may-act a x v =
-      let cs = refusalCases (seenIn t j) (Complete j tick) in
-      let none = acceptance-tells {B = ℕ} cs a x (sym v) .0 in
+      let row = rowIn t (jobOf e) in
+      let applies-not : (r : Refusal) → among r (refusalsOf (about e)) ≡ true → applies t (calling (jobOf e) (tickOf e) (setOf e)) r ≡ false =
+      λ r asked.
+      clear-named (applies t (calling (jobOf e) (tickOf e) (setOf e))) (refusalsOf (about e)) r asked
+      (acceptance-tells {B = ℕ} (refusalCases (seenIn t (jobOf e)) e) a x (sym v) .0) in
+      let is-asked : Refusal → Bool = λ r. among r (refusalsOf (about e)) in
+      let asked = asks-actor e loud in
+      let rest = and-right (is-asked NotLive) (is-asked NoToken && (is-asked StillWaiting && true)) asked in
+      let last = and-right (is-asked NoToken) (is-asked StillWaiting && true) rest in
       record {
-        alive = ltb-true 0 (rowIn t j .turn .0) (not-false (live (rowIn t j)) (clear 8 cs refl none));
-        has-token = ltb-true (ahead (t .rows) (rowIn t j .turn .0)) (t .tokens) (not-false _ (clear 9 cs refl none));
-        asks-nothing = le-zero (ltb-false 0 (rowIn t j .asked) (clear 10 cs refl none));
+        alive = ltb-true 0 (row .turn .0) (not-false (live row) (applies-not NotLive (and-left (is-asked NotLive) _ asked)));
+        has-token =
+            ltb-true (ahead (t .rows) (row .turn .0)) (t .tokens)
+            (not-false _ (applies-not NoToken (and-left (is-asked NoToken) _ rest)));
+        asks-nothing = le-zero (ltb-false 0 (row .asked) (applies-not StillWaiting (and-left (is-asked StillWaiting) true last)));
       }
 
-  -- what is left of rows and list is what a completion means
-  pub completion-does :
-      (x : ℕ) (before after : List ℕ) (swept : Swept) (r : Next) → timeAt t (tick .0) ≡ x →
-      Completed (t .tokens) (t .rows) j before swept after → r .answer ≡ Answers.Woke (swept .count) →
-      r .table ≡ moved t x (t .last .0) (swept .rows) →
-      Does (said t (Complete j tick)) (accepted t (Complete j tick)) r × (after ≡ over (wakes t (Complete j tick)) before)
-  completion-does x before after swept r now done says hands = (
-    record {
-      says = ap saidOf says ∙ ap (λ (n : ℕ). fine (saysWoke n)) (done .lists .told);
-      hands =
-          hands ∙ ap (λ (rows : List Row). moved t x (t .last .0) rows) (done .leaves)
-          ∙ ap (λ (time : ℕ). moved t time (t .last .0) (completedRows (t .tokens) (t .rows) j)) (sym now);
-    },
-    done .lists .left,
-  )
+  -- what it writes is an idle row, or the row of the same request, which goes on
+  pub writes-onward : sound t ≡ true → Acts (t .tokens) (t .rows) (jobOf e) → Onward (rowIn t (jobOf e)) (changeOn t e .row)
+  writes-onward ok = go e loud
+    where
+      go : (e : Event) → about e .wakes ≡ true → Acts (t .tokens) (t .rows) (jobOf e) → Onward (rowIn t (jobOf e)) (changeOn t e .row)
+      go (Beat tick) loud acts = absurd (true≢false (sym loud))
+      go (Open j tick s) loud acts = absurd (true≢false (sym loud))
+      go (Ask j tick s) loud acts = absurd (true≢false (sym loud))
+      go (Release j tick s) loud acts = absurd (true≢false (sym loud))
+      go (Complete j tick) loud acts = ended refl
+      go (GiveUp j tick s) loud acts =
+          stayed refl (acts .asks-nothing)
+          (sound-steady (boundsOf t) (t .rows) (sound-by t ∙ ok) .each j .rests (acts .alive) (acts .has-token) (acts .asks-nothing))
+
+  -- what is left of rows and list is what the event means
+  pub settling-does :
+      (c : Change) (before after : List ℕ) (swept : Swept) (r : Next) → changeOn t e ≡ c →
+      Settles (t .tokens) (t .rows) (jobOf e) (c .row) before swept after → r .answer ≡ Answers.Woke (swept .count) →
+      r .table ≡ moved t (c .time) (c .last .0) (swept .rows) →
+      Does (said t e) (accepted t e) r × (after ≡ over (wakes t e) before)
+  settling-does c before after swept r is done says hands =
+      let rows-after : settledRows (t .tokens) (t .rows) (jobOf e) (c .row) ≡ accepted t e .rows =
+      ap (λ (x : Change). settledRows (t .tokens) (t .rows) (jobOf e) (x .row)) (sym is)
+      ∙ ap (λ (u : Table). u .rows) (loud-accepted t e loud) in
+      let woke : woken (t .tokens) (t .rows) (settledRows (t .tokens) (t .rows) (jobOf e) (c .row)) ≡ wakes t e =
+      ap (woken (t .tokens) (t .rows)) rows-after
+      ∙ sym (ap (λ (b : Bool). cond b (woken (t .tokens) (t .rows) (accepted t e .rows)) []) loud) in (
+        record {
+          says =
+              ap saidOf says ∙ ap (λ (n : ℕ). fine (saysWoke n)) (done .lists .told ∙ ap length woke)
+              ∙ ap fine (sym (loud-said t e loud));
+          hands =
+              hands ∙ ap (moved t (c .time) (c .last .0)) (done .leaves)
+              ∙ ap (λ (x : Change). moved t (x .time) (x .last .0) (settledRows (t .tokens) (t .rows) (jobOf e) (x .row))) (sym is)
+              ∙ loud-accepted t e loud;
+        },
+        done .lists .left ∙ ap (λ (l : List ℕ). over l before) woke,
+      )

@@ -1,12 +1,12 @@
 -- What an event comes to on a table, by what it sees of it.
-use Rattle.arbiter.specs.Prelude.{Bool, Table, Ask, Beat, Call, Change, Complete, Event, List, Open, Release, Row, Seen, [], _+_, _∙_, _∷_, _≡_, about, ap, appliesTo, blocked, casesBy, cond, false, fine, getD, idle, jobOf, not, outcome, outcome-is, refl, refused, seenBy, set, setOf, soundBy, suc, sym, this, token, true, true≢false, zero, ℕ, _&&_, _<_, _^_, _≤_, ahead, all, all-each, and-left, and-right, arith, count-and-true, count-every, count-line, count-mono, distinct, earlier, highest, holds, le-antisymm, leb, leb-true, length, line, live, ltb-true, turn-earlier, Description, refusalsOf, Survey, Surveyed}
+use Rattle.arbiter.specs.Prelude.{Bool, Table, Ask, Beat, Call, Change, Complete, Event, GiveUp, List, Open, Release, Row, Seen, [], _+_, _∙_, _∷_, _≡_, about, ap, appliesTo, blocked, casesBy, cond, false, fine, getD, idle, jobOf, not, outcome, outcome-is, refl, refused, seenBy, set, setOf, settledRows, soundBy, suc, sym, this, token, true, true≢false, zero, ℕ, _&&_, _<_, _^_, _≤_, ahead, all, all-each, and-left, and-right, arith, count-and-true, count-every, count-line, count-mono, distinct, earlier, highest, holds, le-antisymm, leb, leb-true, length, line, live, ltb-true, turn-earlier, Description, refusalsOf, Survey, Surveyed}
 use Rattle.decision.specs.Changes.{askAnswer, changeFor, decided, openAnswer, refusalCases}
 use Rattle.arbiter.specs.Bounded.{boundsOf}
 use Rattle.decision.specs.declared.deciding.Decision.{Decision}
 use Rattle.arbiter.specs.Meaning.{accepted, moved, said, wakes}
 use Rattle.arbiter.specs.Refusals.{applies, seenIn}
 use Rattle.arbiter.specs.Sound.{counters, ranges, rowIn, sound, soundRow}
-use Rattle.arbiter.specs.Answers.{saidOf, saysGranted, saysToken, saysWait}
+use Rattle.arbiter.specs.Answers.{saidOf, saysGranted, saysToken, saysWait, saysWoke}
 
 -- ---- What a survey of a table tells
 
@@ -84,6 +84,7 @@ change-accepted t (Open j tick s) quiet = refl
 change-accepted t (Ask j tick s) quiet = refl
 change-accepted t (Release j tick s) quiet = refl
 change-accepted t (Complete j tick) quiet = absurd (true≢false quiet)
+change-accepted t (GiveUp j tick s) quiet = absurd (true≢false quiet)
 
 -- and is told what it means
 pub change-said : (t : Table) (e : Event) → about e .wakes ≡ false → saidOf (changeOn t e .answer) ≡ fine (said t e)
@@ -100,6 +101,27 @@ change-said t (Ask j tick s) quiet = go (forbids t (Ask j tick s))
     go false = refl
 change-said t (Release j tick s) quiet = refl
 change-said t (Complete j tick) quiet = absurd (true≢false quiet)
+change-said t (GiveUp j tick s) quiet = absurd (true≢false quiet)
+
+-- one that may wake others writes its row, and what the others wait for is settled anew
+pub loud-accepted :
+    (t : Table) (e : Event) → about e .wakes ≡ true →
+    moved t (changeOn t e .time) (changeOn t e .last .0) (settledRows (t .tokens) (t .rows) (jobOf e) (changeOn t e .row)) ≡ accepted t e
+loud-accepted t (Beat tick) loud = absurd (true≢false (sym loud))
+loud-accepted t (Open j tick s) loud = absurd (true≢false (sym loud))
+loud-accepted t (Ask j tick s) loud = absurd (true≢false (sym loud))
+loud-accepted t (Release j tick s) loud = absurd (true≢false (sym loud))
+loud-accepted t (Complete j tick) loud = refl
+loud-accepted t (GiveUp j tick s) loud = refl
+
+-- and is told how many it woke
+pub loud-said : (t : Table) (e : Event) → about e .wakes ≡ true → said t e ≡ saysWoke (length (wakes t e))
+loud-said t (Beat tick) loud = absurd (true≢false (sym loud))
+loud-said t (Open j tick s) loud = absurd (true≢false (sym loud))
+loud-said t (Ask j tick s) loud = absurd (true≢false (sym loud))
+loud-said t (Release j tick s) loud = absurd (true≢false (sym loud))
+loud-said t (Complete j tick) loud = refl
+loud-said t (GiveUp j tick s) loud = refl
 
 -- ---- What soundness says that code relies on
 

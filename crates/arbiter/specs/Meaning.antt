@@ -6,14 +6,14 @@ use lib.ListN.{length, replicate, set}
 use Rattle.event.specs.Clock.{difference}
 use Rattle.event.specs.Events.{about, hasJob, jobOf, opens, tickOf}
 use Rattle.event.specs.declared.events.Event.{Event}
-use Rattle.event.specs.declared.events.Event.the-variants.{Beat, Open, Ask, Release, Complete}
+use Rattle.event.specs.declared.events.Event.the-variants.{Beat, Open, Ask, Release, Complete, GiveUp}
 use Rattle.laws.specs.Cases.{Outcome, leaves, outcome}
 use Rattle.laws.specs.Front.{over}
 use Rattle.event.specs.Limits.{jobs}
 use Rattle.rows.specs.Order.{ahead, blocked, idle, inWay, token, waiting}
 use Rattle.rows.specs.Sweep.{settled, woken}
 use Rattle.rows.specs.declared.row.Row.{Row}
-use Rattle.request.specs.Change.{asking, opening, releasing}
+use Rattle.request.specs.Change.{asking, givingUp, opening, releasing}
 use Rattle.questions.specs.Late.{lateIn}
 use Rattle.arbiter.specs.Answers.{Said, saysDone, saysGranted, saysToken, saysWait, saysWoke}
 use Rattle.arbiter.specs.Sound.{rowIn}
@@ -56,6 +56,7 @@ rowAfter t time (Open j tick s) r = openedRow t time s
 rowAfter t time (Ask j tick s) r = askedRow t r time s
 rowAfter t time (Release j tick s) r = releasing r s
 rowAfter t time (Complete j tick) r = idle
+rowAfter t time (GiveUp j tick s) r = givingUp r s
 
 -- the rows with that row in its place; the event of nobody changes none
 abbrev pub rowsWith : Table → Event → List Row
@@ -95,6 +96,7 @@ said t (Open j tick s) = openSays t
 said t (Ask j tick s) = askSays t (rowIn t j) s
 said t (Release j tick s) = saysDone
 said t (Complete j tick) = saysWoke (length (wakes t (Complete j tick)))
+said t (GiveUp j tick s) = saysWoke (length (wakes t (GiveUp j tick s)))
 
 -- ---- Any event, refused or not
 

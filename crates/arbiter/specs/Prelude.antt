@@ -1,8 +1,8 @@
 -- The names from outside that this crate's definitions and proofs use, passed on by one module.
 pub use Prim.Native.Nat.{_+_, _<_, _^_, _≤_, suc, zero, ℕ}
-pub use mathlib.Core.Bool.{Bool, _&&_, cond, false, not, true, true≢false}
+pub use mathlib.Core.Bool.{Bool, _&&_, _||_, cond, false, not, or-true, true, true≢false}
 pub use mathlib.Core.List.{List, [], _++_, _∷_, map}
-pub use mathlib.Core.Logic.{_↔_}
+pub use mathlib.Core.Logic.{_↔_, _⊎_, inl, inr, ⊎-elim}
 pub use mathlib.Core.Path.{_∙_, _≡_, ap, refl, subst, sym}
 pub use native.Mathlib.Nat.{le-antisymm}
 pub use native.Mathlib.Omega.{arith}
@@ -10,7 +10,8 @@ pub use borrow.Author.Needs.{needs}
 pub use borrow.Author.Tests.{eqb-false, eqb-true, le-leb, le-ltb, leb-false, leb-true, lt-leb, lt-ltb, ltb-false, ltb-true, not-false}
 pub use lib.Dec.{eqb, leb, ltb}
 pub use lib.ListN.{getD, length, length-map, replicate, set}
-pub use Rattle.laws.specs.BoolLaws.{and-left, and-right}
+pub use Rattle.laws.specs.BoolLaws.{and-left, and-right, implied}
+pub use Rattle.laws.specs.Bools.{implies}
 pub use Rattle.laws.specs.CaseLaws.{acceptance-tells, clear, leaves-is, leaves-same, outcome-is, outcome-past, refusal-tells}
 pub use Rattle.laws.specs.Cases.{Case, Outcome, ascending, fine, leaves, outcome, refused}
 unfoldable pub use Rattle.laws.specs.Cases.{ascends, case}
@@ -29,15 +30,15 @@ pub use Rattle.laws.specs.Sets.{below, inside, meets, member}
 pub use Rattle.event.specs.Answers.{answerBy}
 pub use Rattle.event.specs.Clock.{momentOf}
 pub use Rattle.event.specs.EventLaws.{every-kind}
-pub use Rattle.event.specs.Events.{Description, about, refusalsOf, described, jobOf, kindOf, setOf, tickOf}
+pub use Rattle.event.specs.Events.{Description, about, actor, described, jobOf, kindOf, ofRole, refusalsOf, setOf, tickOf}
 pub use Rattle.event.specs.Limits.{highest, jobs}
-pub use Rattle.event.specs.RefusalLaws.{refusalOf-numberOf}
-pub use Rattle.event.specs.Refusals.{casesBy, numberOf}
+pub use Rattle.event.specs.RefusalLaws.{clear-named, refusalOf-numberOf}
+pub use Rattle.event.specs.Refusals.{among, casesBy, numberOf}
 pub use Rattle.event.specs.declared.clock.Tick.{Tick}
 pub use Rattle.event.specs.declared.events.Event.{Event}
-pub use Rattle.event.specs.declared.events.Event.the-variants.{Ask, Beat, Complete, Open, Release}
+pub use Rattle.event.specs.declared.events.Event.the-variants.{Ask, Beat, Complete, GiveUp, Open, Release}
 pub use Rattle.event.specs.declared.refusal.Refusal.{Refusal}
-pub use Rattle.event.specs.declared.refusal.Refusal.the-variants.{ShortList}
+pub use Rattle.event.specs.declared.refusal.Refusal.the-variants.{NoToken, NotLive, ShortList, StillWaiting}
 pub use Rattle.rows.specs.InLine.{count-line}
 pub use Rattle.rows.specs.InWay.{in-way-at, in-way-some}
 pub use Rattle.rows.specs.KnownLaws.{waiting-by}
@@ -58,11 +59,14 @@ pub use Rattle.decision.specs.declared.deciding.Change.{Change}
 unfoldable pub use Rattle.soundness.specs.Beside.{soundBy}
 pub use Rattle.soundness.specs.declared.Bounds.{Bounds}
 pub use Rattle.grounds.specs.Refusals.{Call, appliesTo, calling, timeFrom}
+pub use Rattle.rows.specs.Sweep.{woken}
 pub use Rattle.rows.specs.Turns.{turn-earlier}
 pub use Rattle.pass.specs.Pass.{Known, Surveyed, seenBy}
 pub use Rattle.pass.specs.declared.known.Survey.{Survey}
-pub use Rattle.sweep.specs.Sweeping.{Acts, Completed, completedRows}
-pub use Rattle.sweep.specs.declared.completion.Swept.{Swept}
+pub use Rattle.sweep.specs.Steady.{Steady, SteadyRow}
+pub use Rattle.sweep.specs.SteadyLaws.{sound-steady}
+pub use Rattle.sweep.specs.Sweeping.{Acts, Onward, Settles, ended, settledRows, stayed}
+pub use Rattle.sweep.specs.declared.settling.Swept.{Swept}
 pub use lib.Arith.{le-zero}
 pub use Rattle.rows.specs.Known.{waitingBy}
 pub use Rattle.arbiter.specs.declared.table.Report.{Report}

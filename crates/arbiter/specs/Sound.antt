@@ -66,7 +66,7 @@ sinceByWaiting t r = implies (not (waitingIn t r)) (eqb (r .since) 0)
 -- what a live row meets by itself
 abbrev pub ownConditions : Table → Row → List Bool
 ownConditions t r =
-    turnGiven t r ∷ declaresSome r ∷ declaredInRange t r ∷ heldDeclared r ∷ askedDeclared r ∷ heldNotAsked r ∷ []
+    turnGiven t r ∷ declaresSome (tokenOf t r) r ∷ declaredInRange t r ∷ heldDeclared r ∷ askedDeclared r ∷ heldNotAsked r ∷ []
 
 -- what it meets by its place among the others
 abbrev pub placeConditions : Table → Row → List Bool

@@ -1,11 +1,11 @@
-// The calls: start, the five events and the two questions. An event takes the table by value and returns the next.
+// The calls: start, the six events and the two questions. An event takes the table by value and returns the next.
 ghost use Prim.Native.Nat.{_<_, _^_};
 ghost use mathlib.Core.Bool.{false, true};
 ghost use mathlib.Core.Path.{_≡_};
 ghost use lib.ListN.{set};
 ghost use Rattle.event.specs.Events.{about};
 ghost use Rattle.event.specs.Limits.{jobs};
-ghost use Rattle.event.specs.declared.events.Event.the-variants.{Ask, Beat, Complete, Open, Release};
+ghost use Rattle.event.specs.declared.events.Event.the-variants.{Ask, Beat, Complete, GiveUp, Open, Release};
 ghost use Rattle.arbiter.specs.ChangeLaws.{Decides, Finds};
 ghost use Rattle.arbiter.specs.Bounded.{boundsOf};
 ghost use Rattle.arbiter.specs.Effects.{Refuses};
@@ -37,9 +37,8 @@ use rows::live;
 use rows::waiting;
 use soundness::Bounds;
 use soundness::in_range;
-use sweep::completed;
+use sweep::settle;
 use verdict::clock_verdict;
-use verdict::complete_verdict;
 
 // The refusal, and the table as it was.
 fn refused(t: Table, refusal: Refusal) -> Next
@@ -117,6 +116,35 @@ fn written(t: Table, event: Event, decision: Decision) -> Next
             Next {
                 answer,
                 table: with_row(t, change.time, last, parts.job as usize, row),
+            }
+        }
+    }
+}
+
+// An event that may wake others: it is refused, or its row is written, and whoever can go on goes on. Their jobs are written
+// to the lent list in order of turn.
+fn waking(t: Table, event: Event, woken: &mut [u8]) -> Next
+    requires { ⌜ about event .wakes ≡ true ⌝ }
+    ensures { λ r. ⌜ AnsweredInto t event (now (woken .entry)) r (now (woken .exit)) ⌝ }
+{
+    if woken.len() < JOBS {
+        return refused(t, Refusal::ShortList);
+    }
+    let parts = parts_of(event);
+    let rows = t.rows;
+    let s = survey(rows, bounds(t), parts.job);
+    let decision = found(s, t.tokens, event);
+    match decision {
+        Decision::No(refusal) => refused(t, refusal),
+        Decision::Goes(change) => {
+            let line = s.line;
+            let last = change.last;
+            let row = change.row;
+            let swept = settle(rows, line, bounds(t), parts.job as usize, row, woken);
+            let after = swept.rows;
+            Next {
+                answer: Answer::Woke(swept.count),
+                table: moved(t, change.time, last, after),
             }
         }
     }
@@ -206,30 +234,23 @@ impl Table {
         written(self, event, found(s, self.tokens, event))
     }
 
-    // The row becomes idle, and whoever can go on goes on: their jobs are written to the lent list in order of turn.
+    // The row becomes idle, and whoever can go on goes on.
     pub fn complete(self, job: u32, tick: Tick, woken: &mut [u8]) -> Next
         ensures { λ r. ⌜ AnsweredInto self (Complete job tick) (now (woken .entry)) r (now (woken .exit)) ⌝ }
     {
-        if woken.len() < JOBS {
-            return refused(self, Refusal::ShortList);
-        }
-        let rows = self.rows;
-        let s = survey(rows, bounds(self), job);
-        let seen = s.seen;
-        let verdict = complete_verdict(seen, job, tick);
-        match verdict {
-            Moment::No(refusal) => refused(self, refusal),
-            Moment::At(time) => {
-                let line = s.line;
-                let last = self.last;
-                let swept = completed(rows, line, bounds(self), job as usize, woken);
-                let after = swept.rows;
-                Next {
-                    answer: Answer::Woke(swept.count),
-                    table: moved(self, time, last, after),
-                }
-            }
-        }
+        waking(self, Event::Complete { job, tick }, woken)
+    }
+
+    // The members leave the held and the declared set for good, and whoever can go on goes on.
+    pub fn give_up(self, job: u32, tick: Tick, members: u64, woken: &mut [u8]) -> Next
+        ensures { λ r. ⌜ AnsweredInto self (GiveUp job tick members) (now (woken .entry)) r (now (woken .exit)) ⌝ }
+    {
+        let event = Event::GiveUp {
+            job,
+            tick,
+            set: members,
+        };
+        waking(self, event, woken)
     }
 
     // Any event; the only place that goes by its kind.
@@ -242,6 +263,7 @@ impl Table {
             Event::Ask { job, tick, set } => self.ask(job, tick, set),
             Event::Release { job, tick, set } => self.release(job, tick, set),
             Event::Complete { job, tick } => self.complete(job, tick, woken),
+            Event::GiveUp { job, tick, set } => self.give_up(job, tick, set, woken),
         }
     }
 

@@ -8,6 +8,7 @@ use Rattle.arbiter.specs.declared.table.Table.{Table}
 use Rattle.event.specs.Events.{eventOf, kindNumbered, parts}
 use Rattle.event.specs.declared.events.Event.{Event}
 use Rattle.event.specs.declared.events.Kind.{Kind}
+use Rattle.event.specs.declared.events.Kind.the-variants.{GiveUp}
 use Rattle.event.specs.declared.events.Start.{Start}
 use Rattle.cases.specs.declared.calls.Asked.{Asked}
 use Rattle.cases.specs.declared.calls.Asked.the-variants.{Nothing, For}
@@ -29,13 +30,15 @@ abbrev pub eventCallNumbered : ℕ → Asked
 eventCallNumbered n =
     cond (ltb n writing) (askedOf call.Event (kindNumbered n)) (askedOf call.Write (kindNumbered (n - writing)))
 
--- what a number asks for
+-- what a number asks for; a give up's number is taken by a question, so it has numbers of its own
 abbrev pub callNumbered : ℕ → Asked
 callNumbered n =
     cond (eqb n 5) (For call.Report)
     (cond (eqb n 6) (For call.Overdue)
     (cond (eqb n 7) (For call.Start)
-    (cond (eqb n 13) (For call.WriteStart) (eventCallNumbered n))))
+    (cond (eqb n 13) (For call.WriteStart)
+    (cond (eqb n 14) (For (call.Event GiveUp))
+    (cond (eqb n 15) (For (call.Write GiveUp)) (eventCallNumbered n))))))
 
 -- the event of that kind that a case hands over
 abbrev pub caseEvent : Case → Kind → Event

@@ -23,7 +23,8 @@ pub enum Asked {
     For(Call),
 }
 
-// The calls of events: by the kind's number, and where they are written by that and WRITING.
+// The calls of events: by the kind's number, and where they are written by that and WRITING. A give up's number is taken by
+// a question, so it has numbers of its own.
 fn event_call_numbered(number: u64) -> Asked
     ensures { λ r. ⌜ r ≡ eventCallNumbered number ⌝ }
 {
@@ -48,6 +49,8 @@ pub fn call_numbered(number: u8) -> Asked
         6 => Asked::For(Call::Overdue),
         7 => Asked::For(Call::Start),
         13 => Asked::For(Call::WriteStart),
+        14 => Asked::For(Call::Event(Kind::GiveUp)),
+        15 => Asked::For(Call::Write(Kind::GiveUp)),
         _ => event_call_numbered(number as u64),
     }
 }

@@ -1,7 +1,7 @@
 // The calls on a table. Each takes the table by value and hands the next one back, as document 01 wants it.
 ghost use mathlib.Core.Path.{_≡_};
 ghost use lib.ListN.{length};
-ghost use Rattle.event.specs.declared.events.Event.the-variants.{Ask, Beat, Complete, Open, Release};
+ghost use Rattle.event.specs.declared.events.Event.the-variants.{Ask, Beat, Complete, GiveUp, Open, Release};
 ghost use Rattle.event.specs.Limits.{jobs};
 ghost use Rattle.arbiter.specs.Meaning.{listed, overdue, overdueList, report, startAnswer, startTable};
 ghost use Rattle.numbers.specs.Numbers.{eventInNumbers, lateInNumbers, reportInNumbers};
@@ -62,6 +62,21 @@ pub extern "C" fn norakkeun_complete(table: Table, job: u32, tick: Tick, woken: 
     ensures { λ _. ⌜ now (woken .exit) ≡ listed table (Complete job tick) (now (woken .entry)) ⌝ }
 {
     event_in_numbers(table.complete(job, tick, woken))
+}
+
+// The members leave the held and the declared set for good; the woken jobs are written to the lent list in order of turn.
+#[no_mangle]
+pub extern "C" fn norakkeun_give_up(
+    table: Table,
+    job: u32,
+    tick: Tick,
+    set: u64,
+    woken: &mut [u8],
+) -> Told
+    ensures { λ r. ⌜ r ≡ eventTold (length (now (woken .entry))) table (GiveUp job tick set) ⌝ }
+    ensures { λ _. ⌜ now (woken .exit) ≡ listed table (GiveUp job tick set) (now (woken .entry)) ⌝ }
+{
+    event_in_numbers(table.give_up(job, tick, set, woken))
 }
 
 // What is told of a job's request.

@@ -15,7 +15,7 @@ abbrev pub refusalIn : {A : Type 0} → Outcome A → ℕ
 refusalIn (refused n) = n
 refusalIn (fine a) = 0
 
--- what was said: 0 a refusal, 1 "token", 2 "granted", 3 "wait", 4 simply done, 5 completed, with the number woken beside it
+-- what was said: 0 a refusal, 1 "token", 2 "granted", 3 "wait", 4 simply done, 5 done, with the number woken beside it
 abbrev pub saidIn : Outcome Said → ℕ
 saidIn (refused n) = 0
 saidIn (fine saysToken) = 1

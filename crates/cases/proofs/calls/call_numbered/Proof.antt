@@ -16,10 +16,23 @@ returns-4 : tie.Need-returns-4
 returns-4 c = rw (c .match .keys4)
 
 returns-5 : tie.Need-returns-5
-returns-5 c =
+returns-5 c = rw (c .match .keys5)
+
+returns-6 : tie.Need-returns-6
+returns-6 c = rw (c .match .keys6)
+
+returns-7 : tie.Need-returns-7
+returns-7 c =
     let other = c .before .match .rest in
-    rw (ne-eqb _ 5 (other .0 .0 .0 .1), ne-eqb _ 6 (other .0 .0 .1), ne-eqb _ 7 (other .0 .1), ne-eqb _ 13 (other .1))
+    rw (
+      ne-eqb _ 5 (other .0 .0 .0 .0 .0 .1),
+      ne-eqb _ 6 (other .0 .0 .0 .0 .1),
+      ne-eqb _ 7 (other .0 .0 .0 .1),
+      ne-eqb _ 13 (other .0 .0 .1),
+      ne-eqb _ 14 (other .0 .1),
+      ne-eqb _ 15 (other .1),
+    )
     (c .event-call-numbered .ensures)
 
 pub call-numbered-spec : {M : Type 1} → statement M
-call-numbered-spec = tie.close (tie.spec (λ c κs. search needs) returns returns-2 returns-3 returns-4 returns-5)
+call-numbered-spec = tie.close (tie.spec (λ c κs. search needs) returns returns-2 returns-3 returns-4 returns-5 returns-6 returns-7)

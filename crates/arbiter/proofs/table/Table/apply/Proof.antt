@@ -1,4 +1,4 @@
--- Each arm is the method of that event; all but complete leave the lent list as it was.
+-- Each arm is the method of that event; those that wake nobody leave the lent list as it was.
 use Rattle.arbiter.specs.Prelude.{Case, Event, List, Next, Table, [], ap, jobs, leaves, leaves-same, length, needs, outcome, over, refl, sym, ℕ, _∙_, _≡_}
 use Rattle.arbiter.specs.Meaning.{accepted, answer, listed, next, said, wakes}
 use Rattle.arbiter.specs.Promises.{Answered, AnsweredInto}
@@ -43,10 +43,15 @@ returns-4 c =
 returns-5 : tie.Need-returns-5
 returns-5 c = rw (c .before .before .before .before .before .event5 .given .1) (c .before .before .complete .ensures)
 
+returns-6 : tie.Need-returns-6
+returns-6 c = rw (c .before .before .before .before .before .event6 .given .1) (c .before .before .give-up .ensures)
+
 pub apply-spec : {M : Type 1} → statement M
 apply-spec =
     tie.close
     (tie.spec
+    (λ c. search needs)
+    (λ c κs. search needs)
     (λ c. search needs)
     (λ c κs. search needs)
     (λ c. search needs)
@@ -62,4 +67,6 @@ apply-spec =
     returns-3
     returns-4
     (λ c. search needs)
-    returns-5)
+    returns-5
+    (λ c. search needs)
+    returns-6)
