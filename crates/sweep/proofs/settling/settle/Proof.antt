@@ -48,7 +48,7 @@ sweeping :
     (c .loop .woken) (c .loop .next) (c .loop .s) (c .loop .n) (c .loop .p)
 sweeping c = c .loop .inv .0 (c .before .before .before .before .before .args .rows) (beginning (c .before .before)) (c .before .before .before .before .before .pre .0 .0)
 
--- while the loop goes on, a job is left, and it has a token and a row
+-- while the loop goes on, a job is left, and it has a token
 within : (c : tie.Then1 Inv-loop μ-loop) → c .before .before .before .loop .p < c .before .before .before .before .before .before .before .before .args .line .len
 within c = ltb-true _ _ (and-left _ _ (c .if1 .taken))
 
@@ -57,16 +57,19 @@ token c =
     let l = c .before .before .before .loop in
     ltb-true (l .s .ahead) _ (and-right (ltb (l .p) (c .before .before .before .before .before .before .before .before .args .line .len)) _ (c .if1 .taken))
 
-job-fits : (c : tie.Then1 Inv-loop μ-loop) → getD (c .before .before .before .before .before .before .before .before .args .line .jobs) (c .before .before .before .loop .p) 0 < jobs
-job-fits c =
+-- it has a row, fewer than there are jobs have been passed, of these some are listed, and the list has room for all jobs
+bounds :
+    (c : tie.Then1 Inv-loop μ-loop) →
+    (getD (c .before .before .before .before .before .before .before .before .args .line .jobs) (c .before .before .before .loop .p) 0 < jobs) × (c .before .before .before .loop .p < jobs) × (c .before .before .before .loop .n ≤ c .before .before .before .loop .p)
+    × (jobs ≤ length (c .before .before .before .loop .woken))
+bounds c =
     let start = c .before .before .before .before .before .before .before .before in
-    job-below (start .args .rows) (start .pre .0 .0) (long start) (c .before .before .before .loop .p) (within c)
-
--- and the list has room
-room : (c : tie.Then1 Inv-loop μ-loop) → c .before .before .before .loop .n < length (c .before .before .before .loop .woken)
-room c =
-    let w = sweeping (c .before .before .before) .writing in
-    omega (arith, within c, fits (c .before .before .before .before .before .before .before .before), w .fewer, w .long)
+    let w = sweeping (c .before .before .before) .writing in (
+      job-below (start .args .rows) (start .pre .0 .0) (long start) (c .before .before .before .loop .p) (within c),
+      omega (arith, within c, fits start),
+      w .fewer,
+      omega (arith, w .long, start .pre .1 .2),
+    )
 
 -- ---- The needs
 
@@ -80,31 +83,31 @@ loop-holds : tie.Need-loop-holds Inv-loop μ-loop
 loop-holds c = (λ rows is lines. rw (c .front .ensures) (sweeps-start is _), omega arith)
 
 array-read-job : tie.Need-array-read-job Inv-loop μ-loop
-array-read-job c = omega (arith, within c, fits (c .before .before .before .before .before .before .before .before))
+array-read-job c = omega (arith, bounds c)
 
 cast-at : tie.Need-cast-at Inv-loop μ-loop
-cast-at c = omega (arith, job-fits c)
+cast-at c = omega (arith, bounds c)
 
 mul-r : tie.Need-mul-r Inv-loop μ-loop
-mul-r c = omega (arith, job-fits c)
+mul-r c = omega (arith, bounds c)
 
 array-copy-out-r : tie.Need-array-copy-out-r Inv-loop μ-loop
-array-copy-out-r c = job-fits c
+array-copy-out-r c = omega (arith, bounds c)
 
 wakes-requires : tie.Need-wakes-requires Inv-loop μ-loop
 wakes-requires c κs = token (c .before .before .before)
 
 mul-next-2 : tie.Need-mul-next-2 Inv-loop μ-loop
-mul-next-2 c = omega (arith, job-fits (c .before .before .before .before .before .before))
+mul-next-2 c = omega (arith, bounds (c .before .before .before .before .before .before))
 
 array-set-from-next-2 : tie.Need-array-set-from-next-2 Inv-loop μ-loop
-array-set-from-next-2 c = job-fits (c .before .before .before .before .before .before)
+array-set-from-next-2 c = omega (arith, bounds (c .before .before .before .before .before .before))
 
 slice-write-woken : tie.Need-slice-write-woken Inv-loop μ-loop
-slice-write-woken c = room (c .before .before .before .before .before .before)
+slice-write-woken c = omega (arith, bounds (c .before .before .before .before .before .before))
 
 add-n : tie.Need-add-n Inv-loop μ-loop
-add-n c = omega (arith, within (c .before .before .before .before .before .before), fits (c .before .before .before .before .before .before .before .before .before .before .before .before .before .before), sweeping (c .before .before .before .before .before .before .before .before .before) .writing .fewer)
+add-n c = omega (arith, bounds (c .before .before .before .before .before .before))
 
 behind-requires : tie.Need-behind-requires Inv-loop μ-loop
 behind-requires c κs =
@@ -112,7 +115,7 @@ behind-requires c κs =
     omega (arith, token (c .before .before .before .before .before), sound-tokens (start .args .b) (start .args .rows) (start .pre .0 .1))
 
 add-p : tie.Need-add-p Inv-loop μ-loop
-add-p c = omega (arith, within (c .before .before .before), fits (c .before .before .before .before .before .before .before .before .before .before .before))
+add-p c = omega (arith, bounds (c .before .before .before))
 
 loop-less : tie.Need-loop-less Inv-loop μ-loop
 loop-less c = omega (arith, within (c .before .before .before))
@@ -135,7 +138,7 @@ loop-again c =
           (λ v.
           rw (v .2, v .3, v .4)
           (sweeps-wakes is before job placed here (sym alive ∙ w .0 .taken) (token going) (w .3 .result) (w .3 .ensures)
-          (sym (w .1 .ensures) ∙ v .0 .taken) (room going) (v .1 .result) (v .1 .ensures)))
+          (sym (w .1 .ensures) ∙ v .0 .taken) (omega (arith, bounds going)) (v .1 .result) (v .1 .ensures)))
           (λ v.
           rw (v .1, v .2, v .3)
           (sweeps-stays is before job placed here (sym alive ∙ w .0 .taken) (token going) (w .3 .result) (w .3 .ensures)
