@@ -1,27 +1,36 @@
--- What an accepted event does to what rows were opened with, said once for each event, and what follows for every count.
-use Rattle.kept.specs.Prelude.{_&&_, _+_, _<_, Ask, Beat, Bool, Complete, List, Open, Release, Row, Table, about, accepted, ahead, and-not-self, and-true, ap, arith, blocked, claims, cond, count, decLe, earlier, either, eq-eqb, false, getD-set-other, getD-set-same, gone, gone-balance, gone-none, hasJob, idle, inWay, jobOf, length, length-set, length-settled, live, live-within, ltb, meets, not, not-earlier, openedRow, openingOf, refl, row-settled, rowAfter, rowIn, rowOf, set, set-out, settled, subst, swept-idle, swept-keeps, sym, tickOf, timeAt, true, true≢false, ℕ, ℕ-discrete, _∙_, _≡_, _≤_}
+-- What an accepted event does to the turns and declared sets of the rows, said once for each event, and what follows for every
+-- count.
+use Rattle.kept.specs.Prelude.{Ask, Beat, Bool, Complete, GiveUp, List, Open, Release, Row, Table, _&&_, _+_, _<_, _∙_, _≡_, _≤_, about, accepted, ahead, and-eq-true-iff, and-not-self, and-true, ap, arith, blocked, claims, cond, count, decLe, earlier, either, eq-eqb, false, false≢true, getD-set-other, getD-set-same, givingUp, gone, gone-balance, gone-none, hasJob, idle, inWay, jobOf, length, length-set, length-settled, live, live-within, ltb, meets, names, not, not-earlier, openedRow, openingOf, refl, row-settled, rowAfter, rowIn, rowOf, rowsWith, set, set-out, setOf, settled, subst, swept-idle, swept-keeps, sweptRow, sym, tickOf, timeAt, true, true≢false, without, ℕ, ℕ-discrete}
 use Rattle.event.specs.declared.events.Event.{Event}
 use Rattle.kept.specs.Accepted.{acts, open-idle}
-use Rattle.kept.specs.Words.{Accepts, Acts, Alike, ByOpening, Change, Lower, began, ended, kept, ends}
+use Rattle.kept.specs.Sets.{meets-without}
+use Rattle.kept.specs.Words.{Accepts, Acts, Alike, ByOpening, ByTurn, Change, Clearer, Lower, began, ended, ends, gave, kept}
 
 -- ---- What becomes of a row
 
 module _ (n : ℕ) (t : Table) where
-  -- another row than the one that is set
-  other : (j k : ℕ) (r : Row) → ¬ (k ≡ j) → rowOf (set (t .rows) j r) k ≡ rowIn t k
-  other j k r ne = getD-set-other (t .rows) j k r idle ne
+  -- what is settled keeps the turns and the declared sets that were written
+  opening-written : (e : Event) (k : ℕ) → openingOf (rowIn (accepted t e) k) ≡ openingOf (rowOf (rowsWith t e) k)
+  opening-written e k = go (about e .wakes)
+    where
+      written : List Row
+      written = rowsWith t e
 
-  -- where row j is set to r by an event that acts and keeps what its request was opened with
+      go : (w : Bool) → openingOf (rowOf (cond w (settled (t .tokens) written) written) k) ≡ openingOf (rowOf written k)
+      go true = ap openingOf (row-settled (t .tokens) written k) ∙ swept-keeps (t .tokens) written (rowOf written k)
+      go false = refl
+
+  -- where row j is written as r by an event that acts, only that row changes
   acted :
-      (e : Event) (j : ℕ) (r : Row) → accepted t e .rows ≡ set (t .rows) j r → 0 < rowIn t j .turn .0 →
-      openingOf r ≡ openingOf (rowIn t j) → (k : ℕ) → Change t e k
-  acted e j r rows alive keeps k = go (ℕ-discrete k j)
+      (e : Event) (j : ℕ) (r : Row) → rowsWith t e ≡ set (t .rows) j r → 0 < rowIn t j .turn .0 →
+      (rowOf (rowsWith t e) j ≡ r → Change t e j) → (k : ℕ) → Change t e k
+  acted e j r rows alive own k = go (ℕ-discrete k j)
     where
       go : Dec (k ≡ j) → Change t e k
       go (yes q) =
-          kept
-          (rw (rows, q, getD-set-same (t .rows) j r idle (live-within (t .rows) j alive)) keeps)
-      go (no q) = kept (rw (rows, other j k r q) refl)
+          subst (Change t e) (sym q)
+          (own (rw rows (getD-set-same (t .rows) j r idle (live-within (t .rows) j alive))))
+      go (no q) = kept (opening-written e k ∙ rw (rows, getD-set-other (t .rows) j k r idle q))
 
   pub changes : (e : Event) → Accepts n t e → (k : ℕ) → Change t e k
   changes (Beat tick) ok k = kept refl
@@ -35,45 +44,72 @@ module _ (n : ℕ) (t : Table) where
       go (yes q) (no h) =
           began (eq-eqb j k (sym q)) (rw q (open-idle n t j tick s ok))
           (rw (q, getD-set-same (t .rows) j r idle (omega arith)) refl)
-      go (no q) (no h) = kept (ap openingOf (other j k r q))
+      go (no q) (no h) = kept (ap openingOf (getD-set-other (t .rows) j k r idle q))
   changes (Ask j tick s) ok k =
       acted (Ask j tick s) j _ refl (acts n t (Ask j tick s) ok refl .alive)
-      (either openingOf (blocked (t .rows) (rowIn t j .turn .0) s) _ _ refl) k
-  changes (Release j tick s) ok k = acted (Release j tick s) j _ refl (acts n t (Release j tick s) ok refl .alive) refl k
-  changes (Complete j tick) ok k = go (ℕ-discrete k j)
-    where
-      a : Acts t j
-      a = acts n t (Complete j tick) ok refl
-
-      left : List Row
-      left = set (t .rows) j idle
-
-      go : Dec (k ≡ j) → Change t (Complete j tick) k
-      go (yes q) =
-          ended refl (eq-eqb j k (sym q)) (subst (Acts t) (sym q) a)
-          (rw (q, row-settled (t .tokens) left j, getD-set-same (t .rows) j idle idle (live-within (t .rows) j (a .alive)))
-          (swept-idle (t .tokens) left))
-      go (no q) =
-          kept
-          (ap openingOf (row-settled (t .tokens) left k)
-          ∙ swept-keeps (t .tokens) left (rowOf left k)
-          ∙ ap openingOf (other j k idle q))
+      (λ own. kept (ap openingOf own ∙ either openingOf (blocked (t .rows) (rowIn t j .turn .0) s) _ _ refl)) k
+  changes (Release j tick s) ok k =
+      acted (Release j tick s) j _ refl (acts n t (Release j tick s) ok refl .alive) (λ own. kept (ap openingOf own)) k
+  changes (Complete j tick) ok k =
+      let a = acts n t (Complete j tick) ok refl in
+      let left = rowsWith t (Complete j tick) in
+      acted (Complete j tick) j idle refl (a .alive)
+      (λ own.
+      ended refl (eq-eqb j j refl) a
+      (row-settled (t .tokens) left j ∙ ap (sweptRow (t .tokens) left) own ∙ swept-idle (t .tokens) left)) k
+  changes (GiveUp j tick s) ok k =
+      let a = acts n t (GiveUp j tick s) ok refl in
+      acted (GiveUp j tick s) j (givingUp (rowIn t j) s) refl (a .alive)
+      (λ own. gave refl (eq-eqb j j refl) a (opening-written (GiveUp j tick s) j ∙ ap openingOf own)) k
 
 -- ---- Who leaves, and how many stay
 
-module _ {f : Row → Bool} (opening : ByOpening f) (t : Table) (e : Event) (k : ℕ) where
-  -- a row that keeps what it was opened with passes after if it passed before
-  kept-passes : openingOf (rowIn (accepted t e) k) ≡ openingOf (rowIn t k) → f (rowIn (accepted t e) k) ≡ f (rowIn t k)
-  kept-passes same =
-      sym (opening .by-opening (rowIn (accepted t e) k)) ∙ ap f same ∙ opening .by-opening (rowIn t k)
+-- a test by the turn alone is one by the turn and the declared set
+pub turn-opening : {f : Row → Bool} → ByTurn f → ByOpening f
+turn-opening turn =
+    record {
+      by-opening = λ r. turn .by-turn (openingOf r) r refl;
+      idle-fails = λ r was. turn .by-turn r idle was ∙ turn .idle-fails;
+      gains-nothing = λ r s passes. turn .by-turn r (givingUp r s) refl ∙ passes;
+    }
 
-  -- only by its end a row that passed before does not pass after
-  pub left-by : (c : Change t e k) → (f (rowIn t k) && not (f (rowIn (accepted t e) k))) ≡ (ends c && f (rowIn t k))
-  left-by (kept same) =
-      ap (λ (b : Bool). f (rowIn t k) && not b) (kept-passes same) ∙ and-not-self (f (rowIn t k))
-  left-by (ended _ _ _ now) =
-      ap (λ (b : Bool). f (rowIn t k) && not b) (ap f now ∙ opening .idle-fails idle refl) ∙ and-true (f (rowIn t k))
-  left-by (began _ was _) = ap (λ (b : Bool). b && not (f (rowIn (accepted t e) k))) (opening .idle-fails (rowIn t k) was)
+module _ (t : Table) (e : Event) (k : ℕ) where
+  abbrev old : Row
+  old = rowIn t k
+
+  abbrev new : Row
+  new = rowIn (accepted t e) k
+
+  -- a row that another event than its own leaves keeps turn and declared set
+  pub unnamed-keeps : Change t e k → names k e ≡ false → openingOf new ≡ openingOf old
+  unnamed-keeps (kept same) other = same
+  unnamed-keeps (gave _ named _ _) other = absurd (true≢false (sym named ∙ other))
+  unnamed-keeps (ended _ named _ _) other = absurd (true≢false (sym named ∙ other))
+  unnamed-keeps (began named _ _) other = absurd (true≢false (sym named ∙ other))
+
+  module _ {f : Row → Bool} (opening : ByOpening f) where
+    -- a row with the turn and the declared set of another passes if that does
+    passes-as : (r : Row) → openingOf new ≡ openingOf r → f new ≡ f r
+    passes-as r same = sym (opening .by-opening new) ∙ ap f same ∙ opening .by-opening r
+
+    -- only by its own event, and one that may wake others, a row that passed before does not pass after
+    pub leaves-by-own : Change t e k → (f old && not (f new)) ≡ true → (about e .wakes ≡ true) × (names k e ≡ true) × Acts t k
+    leaves-by-own (kept same) gone =
+        absurd (false≢true (sym (ap (λ (b : Bool). f old && not b) (passes-as old same) ∙ and-not-self (f old)) ∙ gone))
+    leaves-by-own (gave loud named a _) gone = (loud, named, a)
+    leaves-by-own (ended loud named a _) gone = (loud, named, a)
+    leaves-by-own (began _ was _) gone =
+        absurd (false≢true (sym (ap (λ (b : Bool). b && not (f new)) (opening .idle-fails old was)) ∙ gone))
+
+  -- where the turn alone is tested, only by its end a row that passed before does not pass after
+  pub left-by : {f : Row → Bool} → ByTurn f → (c : Change t e k) → (f old && not (f new)) ≡ (ends c && f old)
+  left-by {f} turn (kept same) =
+      ap (λ (b : Bool). f old && not b) (passes-as (turn-opening turn) old same) ∙ and-not-self (f old)
+  left-by {f} turn (gave _ _ _ less) =
+      ap (λ (b : Bool). f old && not b) (turn .by-turn new old (ap (λ (r : Row). r .turn .0) less)) ∙ and-not-self (f old)
+  left-by {f} turn (ended _ _ _ now) =
+      ap (λ (b : Bool). f old && not b) (ap f now ∙ turn .idle-fails) ∙ and-true (f old)
+  left-by {f} turn (began _ was _) = ap (λ (b : Bool). b && not (f new)) (turn .by-turn old idle was ∙ turn .idle-fails)
 
 module _ (n : ℕ) (t : Table) (e : Event) (ok : Accepts n t e) where
   abbrev after : List Row
@@ -102,7 +138,14 @@ module _ (n : ℕ) (t : Table) (e : Event) (ok : Accepts n t e) where
     -- whoever passes after passed before
     nobody-comes : (k : ℕ) → Change t e k → (f (rowIn (accepted t e) k) && not (f (rowIn t k))) ≡ false
     nobody-comes k (kept same) =
-        ap (λ (b : Bool). b && not (f (rowIn t k))) (kept-passes (low .opening) t e k same) ∙ and-not-self (f (rowIn t k))
+        ap (λ (b : Bool). b && not (f (rowIn t k))) (passes-as t e k (low .opening) (rowIn t k) same) ∙ and-not-self (f (rowIn t k))
+    nobody-comes k (gave _ _ _ less) =
+        ap (λ (b : Bool). b && not (f (rowIn t k))) (passes-as t e k (low .opening) (givingUp (rowIn t k) (setOf e)) less)
+        ∙ nothing (f (givingUp (rowIn t k) (setOf e))) (f (rowIn t k)) (low .opening .gains-nothing (rowIn t k) (setOf e))
+      where
+        nothing : (a b : Bool) → (a ≡ true → b ≡ true) → (a && not b) ≡ false
+        nothing true b h = ap not (h refl)
+        nothing false b h = refl
     nobody-comes k (ended _ _ _ now) =
         ap (λ (b : Bool). b && not (f (rowIn t k))) (ap f now ∙ low .opening .idle-fails idle refl)
     nobody-comes k (began _ _ next) =
@@ -120,22 +163,23 @@ module _ (n : ℕ) (t : Table) (e : Event) (ok : Accepts n t e) where
     -- where an event wakes nobody, none leaves, and as many pass as before
     pub count-stays : about e .wakes ≡ false → count f after ≡ count f (t .rows)
     count-stays quiet =
-        omega (arith, count-accepted, gone-none idle f (t .rows) after (λ k. stays k (changes n t e ok k)))
+        omega (arith, count-accepted, gone-none idle f (t .rows) after (λ k. stays k _ refl))
       where
-        stays : (k : ℕ) (c : Change t e k) → (f (rowIn t k) && not (f (rowIn (accepted t e) k))) ≡ false
-        stays k (kept same) = left-by (low .opening) t e k (kept same)
-        stays k (ended loud named a now) = absurd (true≢false (sym loud ∙ quiet))
-        stays k (began named was next) = left-by (low .opening) t e k (began named was next)
+        stays : (k : ℕ) (b : Bool) → (f (rowIn t k) && not (f (rowIn (accepted t e) k))) ≡ b → b ≡ false
+        stays k true gone = sym (leaves-by-own t e k (low .opening) (changes n t e ok k) gone .0) ∙ quiet
+        stays k false gone = refl
 
 -- ---- Its two instances
 
+pub turn-live : ByTurn live
+turn-live = record { by-turn = λ r r′ same. ap (ltb 0) same; idle-fails = refl }
+
 module _ (n : ℕ) where
+  pub turn-ahead : ByTurn (earlier n)
+  turn-ahead = record { by-turn = λ r r′ same. ap (λ (m : ℕ). ltb 0 m && ltb m n) same; idle-fails = refl }
+
   pub lower-ahead : Lower n (earlier n)
-  lower-ahead =
-      record {
-        opening = record { by-opening = λ r. refl; idle-fails = λ r e. ap (λ (m : ℕ). ltb 0 m && ltb m n) e };
-        late-fails = not-earlier n;
-      }
+  lower-ahead = record { opening = turn-opening turn-ahead; late-fails = not-earlier n }
 
   pub lower-way : (s : ℕ) → Lower n (claims n s)
   lower-way s =
@@ -144,12 +188,13 @@ module _ (n : ℕ) where
             record {
               by-opening = λ r. refl;
               idle-fails = λ r e. ap (λ (b : Bool). b && meets (r .declared) s) (lower-ahead .opening .idle-fails r e);
+              gains-nothing = λ r x passes.
+                  let both = and-eq-true-iff (earlier n r) (meets (without (r .declared) x) s) in
+                  and-eq-true-iff (earlier n r) (meets (r .declared) s) .1
+                  (both .0 passes .0, meets-without (r .declared) x s (both .0 passes .1));
             };
         late-fails = λ r h. ap (λ (b : Bool). b && meets (r .declared) s) (lower-ahead .late-fails r h);
       }
-
-pub opening-live : ByOpening live
-opening-live = record { by-opening = λ r. refl; idle-fails = λ r e. ap (ltb 0) e }
 
 module _ (n : ℕ) (t : Table) (e : Event) (ok : Accepts n t e) (m : ℕ) (given : m ≤ t .last .0) where
   pub ahead-accepted : gone (earlier m) (t .rows) (accepted t e .rows) + ahead (accepted t e .rows) m ≡ ahead (t .rows) m
@@ -169,3 +214,7 @@ module _ (n : ℕ) (t : Table) (e : Event) (ok : Accepts n t e) (m : ℕ) (given
         same-ahead = sym (count-stays n t e ok (lower-ahead m) given quiet);
         same-way = λ x. sym (count-stays n t e ok (lower-way m x) given quiet);
       }
+
+  -- and after any event no more stand before it and no more are in its way
+  pub clearer : Clearer (t .rows) (accepted t e .rows) m
+  clearer = record { less-ahead = omega (arith, ahead-accepted); less-way = λ x. omega (arith, way-accepted x) }

@@ -1,5 +1,5 @@
 -- What Q3 decides on a set, at an ask and in a sweep: the whole of it or nothing.
-use Rattle.kept.specs.Prelude.{Bool, List, Row, Table, arith, askedRow, blocked, cond, false, inWay, le-ltb, le-of-eq, le-zero, lt-ltb, ltb-false, ltb-true, refl, restedRow, sweptRow, sym, true, true≢false, union, waiting, ℕ, _∙_, _≡_}
+use Rattle.kept.specs.Prelude.{Bool, List, Row, Table, _∙_, _≡_, ap, arith, askedRow, blocked, cond, either, false, grantedRow, inWay, le-ltb, le-of-eq, le-zero, lt-ltb, ltb-false, ltb-true, refl, restedRow, sweptRow, sym, true, true≢false, union, union-empty, waiting, ℕ}
 use Rattle.kept.specs.Words.{Decided, grants, waits, Asked, Swept}
 
 -- ---- The decision
@@ -73,3 +73,22 @@ module _ (T : ℕ) (rows : List Row) (r : Row) where
       go : (b : Bool) → blocked rows (r .turn .0) (r .asked) ≡ b → Swept T rows r (sweptRow T rows r)
       go true e = rw e (rest r refl refl refl (waits (ltb-true 0 (inWay rows (r .turn .0) (r .asked)) e) refl refl))
       go false e = rw e (rest _ refl refl refl (grants (le-zero (ltb-false 0 (inWay rows (r .turn .0) (r .asked)) e)) refl refl))
+
+  -- a row that asks nothing and has no waiting time is left as it is
+  pub nothing-swept : r .asked ≡ 0 → r .since ≡ 0 → sweptRow T rows r ≡ r
+  nothing-swept none rests = ap (restedRow T rows) granted ∙ either (λ x. x) (waiting T rows r) r _ rested
+    where
+      granted : grantedRow rows r ≡ r
+      granted =
+          either (λ x. x) (blocked rows (r .turn .0) (r .asked)) r _
+          (λ i.
+          record {
+            turn = r .turn;
+            declared = r .declared;
+            held = (ap (union (r .held)) none ∙ union-empty (r .held)) i;
+            asked = sym none i;
+            since = r .since;
+          })
+
+      rested : _≡_ {A = Row} (record { turn = r .turn; declared = r .declared; held = r .held; asked = r .asked; since = 0 }) r
+      rested = λ i. record { turn = r .turn; declared = r .declared; held = r .held; asked = r .asked; since = sym rests i }

@@ -1,14 +1,22 @@
 -- Every accepted event leaves a sound table.
-use Rattle.kept.specs.Prelude.{_+_, _-_, _<_, Ask, Beat, Bool, Complete, List, Open, Release, Row, Table, Tick, _^_, accepted, ahead, ahead-set, ap, arith, askedRow, at-set, below, case, cond, decLe, distinct-rows, distinct-set, distinct-settled, distinct-test, eqb-false, false, idle, in-way-empty, in-way-inside, in-way-set, inside, inside-empty, inside-trans, le-refl, length, live-within, lt-irrefl, lt-ltb, ltb-false, meets, meets-comm, meets-empty, meets-inside, moved, not-false, openedRow, refl, releasing, row-settled, rowIn, set, set-out, settled, swept-idle, sweptRow, sym, timeAt, token, true, waiting, waiting-reads, without, without-inside, without-le, ℕ, _∙_, _≡_, _≢_, _≤_}
+use Rattle.kept.specs.Prelude.{Ask, Beat, Bool, Complete, GiveUp, List, Open, Release, Row, Table, Tick, _+_, _-_, _<_, _^_, _∙_, _≡_, _≢_, _≤_, accepted, ahead, ap, arith, askedRow, at-set, below, case, cond, decLe, distinct-rows, distinct-set, distinct-settled, distinct-test, eqb-false, false, givingUp, idle, in-way-empty, inside, inside-empty, inside-refl, inside-trans, le-refl, length, live-within, lt-irrefl, lt-ltb, ltb-false, meets, meets-comm, meets-empty, moved, not-false, openedRow, refl, releasing, row-settled, rowIn, set, set-out, settled, swept-idle, sweptRow, sym, timeAt, token, true, waiting, waiting-reads, without, without-inside, ℕ}
 use Rattle.event.specs.declared.events.Event.{Event}
 use Rattle.kept.specs.Words.{Accepts, Acts, Asked, Decided, Swept, grants, waits, Alike, Clearer, NoEarlier}
 use Rattle.kept.specs.Accepted.{acts, open-idle, passed, was-sound}
+use Rattle.kept.specs.Changes.{clearer}
 use Rattle.kept.specs.Decisions.{asks, sweeps}
-use Rattle.kept.specs.Rows.{alike-clearer, alike-kept, alike-opened, alike-self, alike-settled, carried, decided, decided-alike}
+use Rattle.kept.specs.Rows.{alike-clearer, alike-kept, alike-opened, alike-self, alike-settled, carried, decided, decided-alike, lessened}
+use Rattle.kept.specs.Sets.{inside-without}
 use Rattle.kept.specs.Sound.Words.{LiveRow, SoundRow, SoundTable}
 use Rattle.kept.specs.Sound.Tests.{idle-sound}
 
--- ---- What the five events leave
+-- ---- What is left by events after which nothing is settled
+
+-- no other row has the turn of a live row, once it is written anew
+unshared :
+    {t : Table} {j : ℕ} → SoundTable t → (r : Row) → 0 < rowIn t j .turn .0 → r .turn .0 ≡ rowIn t j .turn .0 → (k : ℕ) → k ≢ j →
+    rowIn t k .turn .0 ≢ r .turn .0
+unshared {j = j} p r alive turn k ne e = ne (sym (p .distinct j k alive (sym (e ∙ turn))))
 
 module _ (t : Table) (tick : Tick) (p : SoundTable t) (in-time : timeAt t (tick .0) ≤ 2 ^ 63 - 1) where
   onward : (last : ℕ) (rows : List Row) → t .last .0 ≤ last → NoEarlier t (moved t (timeAt t (tick .0)) last rows)
@@ -69,7 +77,7 @@ module _ (t : Table) (tick : Tick) (p : SoundTable t) (in-time : timeAt t (tick 
       opened : LiveRow (accepted t (Open j tick s)) (openedRow t (timeAt t (tick .0)) s)
       opened = record {
         given = le-refl _;
-        declares = some;
+        declares = λ _. some;
         in-range = in-range;
         held-declared = inside-empty s;
         asked-declared = inside-empty s;
@@ -103,7 +111,7 @@ module _ (t : Table) (tick : Tick) (p : SoundTable t) (in-time : timeAt t (tick 
       SoundTable (moved t (timeAt t (tick .0)) (t .last .0) (set (t .rows) j r))
   acted-kept j r alive turn declared q =
       let h = live-within (t .rows) j alive in
-      set-kept (t .last .0) j r h (le-refl _) (p .last) (omega arith) (λ k ne e. ne (sym (p .distinct j k alive (sym (e ∙ turn)))))
+      set-kept (t .last .0) j r h (le-refl _) (p .last) (omega arith) (unshared p r alive turn)
       (λ n _. alike-kept (t .rows) j r n h turn declared) q
 
   -- after an ask a row waits since now or not at all
@@ -141,78 +149,73 @@ module _ (t : Table) (tick : Tick) (p : SoundTable t) (in-time : timeAt t (tick 
       let alike = alike-kept (t .rows) j (releasing r s) (r .turn .0) h refl refl in
       let c = carried (onward (t .last .0) (set (t .rows) j (releasing r s)) (le-refl _)) alike q in
       acted-kept j (releasing r s) alive refl refl
-      (record {
-        given = c .given;
-        declares = c .declares;
-        in-range = c .in-range;
-        held-declared = inside-trans (without (r .held) s) (r .held) (r .declared) part (c .held-declared);
-        asked-declared = c .asked-declared;
-        apart = meets-inside (without (r .held) s) (r .held) (r .asked) part (c .apart);
-        holds-by-token = λ h. omega (arith, without-le (r .held) s, c .holds-by-token h);
-        asks-by-token = c .asks-by-token;
-        held-free =
-            in-way-inside (accepted t (Release j tick s) .rows) (r .turn .0) (without (r .held) s) (r .held) part (c .held-free);
-        asked-blocked = c .asked-blocked;
-        waits-since = c .waits-since;
-        rests = c .rests;
-      })
+      (lessened (r .declared) (without (r .held) s) c (c .declares) (inside-refl (r .declared)) part
+      (inside-trans (without (r .held) s) (r .held) (r .declared) part (c .held-declared)) (c .asked-declared))
 
--- ---- Complete
+-- ---- Events after which the rows are settled: a completion and a give up
 
--- the rows once the request of j is gone, before the sweep
-abbrev left : Table → ℕ → List Row
-left t j = set (t .rows) j idle
+-- row j becomes r, and then the rows are settled
+module _ (t : Table) (tick : Tick) (p : SoundTable t) (in-time : timeAt t (tick .0) ≤ 2 ^ 63 - 1) (j : ℕ) (r : Row) where
+  abbrev written : List Row
+  written = set (t .rows) j r
 
-module _ (t : Table) (tick : Tick) (p : SoundTable t) (in-time : timeAt t (tick .0) ≤ 2 ^ 63 - 1) (j : ℕ)
-    (h : j < length (t .rows)) where
-  settled-clearer : (n : ℕ) → Clearer (t .rows) (accepted t (Complete j tick) .rows) n
-  settled-clearer n = record {
-    less-ahead = omega (arith, alike-settled (t .tokens) (left t j) n .same-ahead, ahead-set (t .rows) j idle h n);
-    less-way = λ x. omega (arith, alike-settled (t .tokens) (left t j) n .same-way x, in-way-set (t .rows) j idle h n x);
-  }
+  abbrev after : Table
+  after = moved t (timeAt t (tick .0)) (t .last .0) (settled (t .tokens) written)
 
-  swept-live :
-      {r r′ : Row} → 0 < r .turn .0 → LiveRow t r → Swept (t .tokens) (left t j) r r′ → LiveRow (accepted t (Complete j tick)) r′
-  swept-live {r} {r′} alive q w =
-      let clearer = settled-clearer (r .turn .0) in
-      decided (onward t tick p in-time (t .last .0) (accepted t (Complete j tick) .rows) (le-refl _)) clearer q (w .turn)
-      (w .declared) (q .asked-declared) (q .apart) (λ late. q .asks-by-token (omega (arith, clearer .less-ahead)))
-      (since (waiting (t .tokens) (left t j) r′) refl) rests
-      (decided-alike (alike-settled (t .tokens) (left t j) (r .turn .0)) (w .decided))
-    where
-      since : (b : Bool) → waiting (t .tokens) (left t j) r′ ≡ b → r′ .since ≤ timeAt t (tick .0)
-      since true e = omega (arith, w .since e, q .waits-since)
-      since false e = omega (arith, w .rests e)
+  module _ (clear : (n : ℕ) → n ≤ t .last .0 → Clearer (t .rows) (after .rows) n) where
+    swept-live : {x x′ : Row} → 0 < x .turn .0 → LiveRow t x → Swept (t .tokens) written x x′ → LiveRow after x′
+    swept-live {x} {x′} alive q w =
+        let less = clear (x .turn .0) (q .given) in
+        decided (onward t tick p in-time (t .last .0) (after .rows) (le-refl _)) less q (w .turn)
+        (w .declared) (q .asked-declared) (q .apart) (λ late. q .asks-by-token (omega (arith, less .less-ahead)))
+        (since (waiting (t .tokens) written x′) refl) rests
+        (decided-alike (alike-settled (t .tokens) written (x .turn .0)) (w .decided))
+      where
+        since : (b : Bool) → waiting (t .tokens) written x′ ≡ b → x′ .since ≤ timeAt t (tick .0)
+        since true e = omega (arith, w .since e, q .waits-since)
+        since false e = omega (arith, w .rests e)
 
-      rests : ahead (accepted t (Complete j tick) .rows) (r′ .turn .0) < t .tokens → r′ .asked ≡ 0 → r′ .since ≡ 0
-      rests has nothing =
-          w .rests
-          (waiting-reads (t .tokens) (left t j) r′ (omega (arith, w .turn)) .fails .1
-          (omega (arith, alike-settled (t .tokens) (left t j) (r′ .turn .0) .same-ahead), nothing))
+        rests : ahead (after .rows) (x′ .turn .0) < t .tokens → x′ .asked ≡ 0 → x′ .since ≡ 0
+        rests has nothing =
+            w .rests
+            (waiting-reads (t .tokens) written x′ (omega (arith, w .turn)) .fails .1
+            (omega (arith, alike-settled (t .tokens) written (x′ .turn .0) .same-ahead), nothing))
 
-  swept-kept : {r : Row} → SoundRow t r → SoundRow (accepted t (Complete j tick)) (sweptRow (t .tokens) (left t j) r)
-  swept-kept {r} q = record {
-    idles = λ z. ap (sweptRow (t .tokens) (left t j)) (q .idles (sym (w .turn) ∙ z)) ∙ swept-idle (t .tokens) (left t j);
-    lives = λ l. let alive : 0 < r .turn .0 = omega (arith, w .turn) in swept-live alive (q .lives alive) w;
-  }
-    where
-      w : Swept (t .tokens) (left t j) r (sweptRow (t .tokens) (left t j) r)
-      w = sweeps (t .tokens) (left t j) r
+    swept-kept : {x : Row} → SoundRow t x → SoundRow after (sweptRow (t .tokens) written x)
+    swept-kept {x} q = record {
+      idles = λ z. ap (sweptRow (t .tokens) written) (q .idles (sym (w .turn) ∙ z)) ∙ swept-idle (t .tokens) written;
+      lives = λ l. let alive : 0 < x .turn .0 = omega (arith, w .turn) in swept-live alive (q .lives alive) w;
+    }
+      where
+        w : Swept (t .tokens) written x (sweptRow (t .tokens) written x)
+        w = sweeps (t .tokens) written x
 
-  completed-kept : SoundTable (accepted t (Complete j tick))
-  completed-kept = record {
-    ranges = p .ranges;
-    time = in-time;
-    last = p .last;
-    distinct =
-        distinct-rows (settled (t .tokens) (left t j))
-        (distinct-settled (t .tokens) (left t j)
-        ∙ distinct-test (left t j) (distinct-set (t .rows) j idle h (p .distinct) (λ k ne l. absurd (lt-irrefl 0 l))));
-    rows = λ k.
-        rw (row-settled (t .tokens) (left t j) k)
-        (at-set (λ _ r. SoundRow (accepted t (Complete j tick)) (sweptRow (t .tokens) (left t j) r)) (t .rows) j idle h
-        (swept-kept (idle-sound t)) (λ k _. swept-kept (p .rows k)) k);
-  }
+    -- a sound table, if r was sound and no other row has its turn
+    settled-kept :
+        j < length (t .rows) → SoundRow t r → ((k : ℕ) → k ≢ j → 0 < r .turn .0 → rowIn t k .turn .0 ≢ r .turn .0) →
+        SoundTable after
+    settled-kept h q alone = record {
+      ranges = p .ranges;
+      time = in-time;
+      last = p .last;
+      distinct =
+          distinct-rows (settled (t .tokens) written)
+          (distinct-settled (t .tokens) written
+          ∙ distinct-test written (distinct-set (t .rows) j r h (p .distinct) alone));
+      rows = λ k.
+          rw (row-settled (t .tokens) written k)
+          (at-set (λ _ x. SoundRow after (sweptRow (t .tokens) written x)) (t .rows) j r h
+          (swept-kept q) (λ k _. swept-kept (p .rows k)) k);
+    }
+
+-- what a request gives up leaves its row sound
+given-up-row : {t : Table} {j : ℕ} → SoundTable t → Acts t j → (s : ℕ) → LiveRow t (givingUp (rowIn t j) s)
+given-up-row {t} {j} p a s =
+    let r = rowIn t j in
+    let q = p .rows j .lives (a .alive) in
+    lessened (without (r .declared) s) (without (r .held) s) q (λ late. absurd (omega (arith, a .has)))
+    (without-inside (r .declared) s) (without-inside (r .held) s) (inside-without (r .held) (r .declared) s (q .held-declared))
+    (rw (a .nothing) (inside-empty (without (r .declared) s)))
 
 -- ---- Whatever the event
 
@@ -235,5 +238,13 @@ accepted-kept n t (Release j tick s) ok =
     released-kept t tick (was-sound n t (Release j tick s) ok) (ltb-false _ _ (off 6)) j s (acts n t (Release j tick s) ok refl .alive)
 accepted-kept n t (Complete j tick) ok =
     let off = passed n t (Complete j tick) ok in
-    completed-kept t tick (was-sound n t (Complete j tick) ok) (ltb-false _ _ (off 6)) j
-    (live-within (t .rows) j (acts n t (Complete j tick) ok refl .alive))
+    settled-kept t tick (was-sound n t (Complete j tick) ok) (ltb-false _ _ (off 6)) j idle (clearer n t (Complete j tick) ok)
+    (live-within (t .rows) j (acts n t (Complete j tick) ok refl .alive)) (idle-sound t) (λ k ne l. absurd (lt-irrefl 0 l))
+accepted-kept n t (GiveUp j tick s) ok =
+    let off = passed n t (GiveUp j tick s) ok in
+    let p = was-sound n t (GiveUp j tick s) ok in
+    let a = acts n t (GiveUp j tick s) ok refl in
+    settled-kept t tick p (ltb-false _ _ (off 6)) j (givingUp (rowIn t j) s) (clearer n t (GiveUp j tick s) ok)
+    (live-within (t .rows) j (a .alive))
+    (record { idles = λ z. absurd (omega (arith, a .alive, z)); lives = λ _. given-up-row p a s })
+    (λ k ne _. unshared p (givingUp (rowIn t j) s) (a .alive) refl k ne)

@@ -3,9 +3,11 @@ pub mod Accepted
 pub mod Changes
 pub mod Decisions
 pub mod Events
+pub mod GivenUp
 pub mod Named
 pub mod Prelude
 pub mod Rows
+pub mod Sets
 pub mod Sound
 pub mod Soundness
 pub mod Woken

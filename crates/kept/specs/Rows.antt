@@ -1,5 +1,6 @@
 -- When a row stays sound, though the table around it moves on.
-use Rattle.kept.specs.Prelude.{_&&_, _<_, Bool, List, Row, Table, ahead, ahead-set, ahead-settled, ap, arith, bit, claims, decLe, earlier, false, idle, in-way-set, in-way-settled, in-way-union, inside, inside-empty, inside-union, le-of-eq, length, live, ltb, meets, meets-empty, not, not-earlier, refl, rowOf, set, set-out, settled, sym, true, union-self, waiting, _||_, ℕ, _∙_, _≡_, _≤_}
+use Rattle.kept.specs.Prelude.{Bool, List, Row, Table, _&&_, _<_, _||_, _∙_, _≡_, _≤_, ahead, ahead-set, ahead-settled, ap, arith, below, bit, claims, decLe, earlier, false, idle, in-way-inside, in-way-set, in-way-settled, in-way-union, inside, inside-empty, inside-union, le-of-eq, length, live, lt-ltb, ltb, ltb-true, meets, meets-empty, meets-inside, not, not-earlier, refl, rowOf, set, set-out, settled, sym, true, union-self, waiting, ℕ}
+use Rattle.kept.specs.Sets.{inside-le}
 use Rattle.kept.specs.Words.{Decided, grants, waits, Alike, NoEarlier, Clearer}
 use Rattle.kept.specs.Sound.Words.{LiveRow}
 
@@ -54,7 +55,7 @@ decided-alike {s} a (waits way h e) = waits (omega (arith, a .same-way s, way)) 
 pub carried : {t u : Table} {r : Row} → NoEarlier t u → Alike (t .rows) (u .rows) (r .turn .0) → LiveRow t r → LiveRow u r
 carried {t} {u} {r} o a p = record {
   given = omega arith;
-  declares = p .declares;
+  declares = λ h. p .declares (omega arith);
   in-range = rw (o .resources) at (p .in-range);
   held-declared = p .held-declared;
   asked-declared = p .asked-declared;
@@ -70,6 +71,14 @@ carried {t} {u} {r} o a p = record {
 pub alike-clearer : {rows rows′ : List Row} {n : ℕ} → Alike rows rows′ n → Clearer rows rows′ n
 alike-clearer a = record { less-ahead = le-of-eq (sym (a .same-ahead)); less-way = λ x. le-of-eq (sym (a .same-way x)) }
 
+-- who has no token where no more stand before it had none
+late-before :
+    {t u : Table} {n m : ℕ} → NoEarlier t u → Clearer (t .rows) (u .rows) n → m ≡ n → u .tokens ≤ ahead (u .rows) m →
+    t .tokens ≤ ahead (t .rows) n
+late-before {u = u} {n} o c same late =
+    let late′ : u .tokens ≤ ahead (u .rows) n = rw same at late in
+    omega (arith, o .tokens, c .less-ahead)
+
 -- what Q3 decides on a set s leaves a row sound, if s is declared, apart from what is held, and empty without a token
 pub decided :
     {t u : Table} {r r′ : Row} {s : ℕ} → NoEarlier t u → Clearer (t .rows) (u .rows) (r .turn .0) → LiveRow t r →
@@ -79,14 +88,12 @@ pub decided :
     Decided (u .rows) s r (r′ .held) (r′ .asked) → LiveRow u r′
 decided {u} {r} {s} o c p turn declared s-declared s-apart by-token in-time rests (grants way held asked) = record {
   given = omega arith;
-  declares = omega (arith, p .declares);
+  declares = λ h. omega (arith, declared, p .declares (late-before o c turn h));
   in-range = rw (declared, ← o .resources) (p .in-range);
   held-declared = rw (declared, held) (inside-union (r .held) s (r .declared) .1 (p .held-declared, s-declared));
   asked-declared = rw asked (inside-empty _);
   apart = rw asked (meets-empty _);
-  holds-by-token = λ h.
-      let late : u .tokens ≤ ahead (u .rows) (r .turn .0) = rw turn at h in
-      rw (held, p .holds-by-token (omega arith), by-token late) (union-self 0);
+  holds-by-token = λ h. rw (held, p .holds-by-token (late-before o c turn h), by-token (rw turn at h)) (union-self 0);
   asks-by-token = λ h. asked;
   held-free =
       rw (turn, held)
@@ -97,17 +104,37 @@ decided {u} {r} {s} o c p turn declared s-declared s-apart by-token in-time rest
 }
 decided {u} {r} {s} o c p turn declared s-declared s-apart by-token in-time rests (waits way held asked) = record {
   given = omega arith;
-  declares = omega (arith, p .declares);
+  declares = λ h. omega (arith, declared, p .declares (late-before o c turn h));
   in-range = rw (declared, ← o .resources) (p .in-range);
   held-declared = rw (declared, held) (p .held-declared);
   asked-declared = rw (declared, asked) s-declared;
   apart = rw (held, asked) s-apart;
-  holds-by-token = λ h.
-      let late : u .tokens ≤ ahead (u .rows) (r .turn .0) = rw turn at h in
-      held ∙ p .holds-by-token (omega arith);
+  holds-by-token = λ h. held ∙ p .holds-by-token (late-before o c turn h);
   asks-by-token = λ h. asked ∙ by-token (rw turn at h);
   held-free = rw (turn, held) (omega (arith, c .less-way (r .held), p .held-free));
   asked-blocked = λ h. rw (turn, asked) way;
   waits-since = in-time;
   rests = rests;
+}
+
+-- a row stays sound that declares a part of what it did, something still without a token, and holds a part of what it held, if
+-- what it holds and asks is declared
+pub lessened :
+    {t : Table} {r : Row} (d h : ℕ) → LiveRow t r → (t .tokens ≤ ahead (t .rows) (r .turn .0) → 0 < d) →
+    inside d (r .declared) ≡ true → inside h (r .held) ≡ true → inside h d ≡ true → inside (r .asked) d ≡ true →
+    LiveRow t (record { turn = r .turn; declared = d; held = h; asked = r .asked; since = r .since })
+unfolding below
+lessened {t} {r} d h p some less part held asked = record {
+  given = p .given;
+  declares = some;
+  in-range = lt-ltb d _ (omega (arith, inside-le d (r .declared) less, ltb-true (r .declared) _ (p .in-range)));
+  held-declared = held;
+  asked-declared = asked;
+  apart = meets-inside h (r .held) (r .asked) part (p .apart);
+  holds-by-token = λ late. omega (arith, inside-le h (r .held) part, p .holds-by-token late);
+  asks-by-token = p .asks-by-token;
+  held-free = in-way-inside (t .rows) (r .turn .0) h (r .held) part (p .held-free);
+  asked-blocked = p .asked-blocked;
+  waits-since = p .waits-since;
+  rests = p .rests;
 }

@@ -1,8 +1,10 @@
 -- What is said of accepted events and of rows while the table around them moves on.
 use Prim.Native.Nat.{ℕ, _+_, _<_, _≤_}
 use mathlib.Core.Path.{_≡_}
+use Rattle.event.specs.declared.clock.Tick.{Tick}
 use Rattle.event.specs.declared.events.Event.{Event}
-use Rattle.laws.specs.Cases.{first, refused}
+use Rattle.event.specs.declared.events.Event.the-variants.{Ask, Complete, GiveUp, Release}
+use Rattle.laws.specs.Cases.{case, first, refused}
 use Rattle.event.specs.Limits.{jobs}
 use Rattle.rows.specs.Order.{ahead, idle, inWay, waiting}
 use Rattle.rows.specs.Propositions.{openingOf}
@@ -15,7 +17,8 @@ use Rattle.laws.specs.Sets.{union}
 use Rattle.rows.specs.declared.row.Row.{Row}
 use Rattle.rows.specs.Sweep.{sweptRow}
 use Rattle.arbiter.specs.Meaning.{accepted, answer, overdue, report}
-use Rattle.event.specs.Events.{about, names}
+use Rattle.event.specs.Events.{about, names, setOf}
+use Rattle.request.specs.Change.{givingUp}
 use mathlib.Core.Logic.{_≢_}
 
 -- no case refuses the event
@@ -97,21 +100,44 @@ pub record NeverUnsound (t : Table) : Type 0 where
   pub report : (j : ℕ) → report t j ≢ refused 3
   pub overdue : (n tick : ℕ) → overdue n t tick ≢ refused 3
 
--- ---- What becomes of the row of a job by what it was opened with
+-- ---- A request that has given up all
 
--- after an accepted event the row of job k keeps turn and declared set; or the event was its own, and it is idle now; or it
--- was idle, the event was its own, and it has the next turn
+-- job j's request can neither ask nor release nor give up; it is live, has its token and has no ask that waits, so it can complete
+pub record OnlyCompletes (t : Table) (j : ℕ) : Type 0 where
+  pub ask : (n : ℕ) (tick : Tick) (s : ℕ) → ¬ Accepts n t (Ask j tick s)
+  pub release : (n : ℕ) (tick : Tick) (s : ℕ) → ¬ Accepts n t (Release j tick s)
+  pub give-up : (n : ℕ) (tick : Tick) (s : ℕ) → ¬ Accepts n t (GiveUp j tick s)
+  pub complete :
+      (n : ℕ) (tick : Tick) →
+      (case 8 (cases n t (Complete j tick)) ≡ false)
+      × (case 9 (cases n t (Complete j tick)) ≡ false)
+      × (case 10 (cases n t (Complete j tick)) ≡ false)
+
+-- ---- What becomes of the turn and the declared set of the row of a job
+
+-- after an accepted event the row of job k keeps turn and declared set; or the event was its own, and it declares the set no
+-- more; or the event was its own, and it is idle now; or it was idle, the event was its own, and it has the next turn
 pub data Change (t : Table) (e : Event) (k : ℕ) : Type 0 where
   kept : openingOf (rowIn (accepted t e) k) ≡ openingOf (rowIn t k) → Change t e k
+  gave :
+      about e .wakes ≡ true → names k e ≡ true → Acts t k →
+      openingOf (rowIn (accepted t e) k) ≡ openingOf (givingUp (rowIn t k) (setOf e)) → Change t e k
   ended : about e .wakes ≡ true → names k e ≡ true → Acts t k → rowIn (accepted t e) k ≡ idle → Change t e k
   began : names k e ≡ true → rowIn t k .turn .0 ≡ 0 → rowIn (accepted t e) k .turn .0 ≡ t .last .0 + 1 → Change t e k
 
--- a test by what a row was opened with, which no idle row passes
+-- a test by the turn and the declared set of a row, which no idle row passes
 pub record ByOpening (f : Row → Bool) : Type 0 where
   pub by-opening : (r : Row) → f (openingOf r) ≡ f r
   pub idle-fails : (r : Row) → r .turn .0 ≡ 0 → f r ≡ false
+  -- whoever passes after giving up something passed before
+  pub gains-nothing : (r : Row) (s : ℕ) → f (givingUp r s) ≡ true → f r ≡ true
 
--- and none of turn n or higher
+-- a test by the turn of a row alone, which no idle row passes
+pub record ByTurn (f : Row → Bool) : Type 0 where
+  pub by-turn : (r r′ : Row) → r .turn .0 ≡ r′ .turn .0 → f r ≡ f r′
+  pub idle-fails : f idle ≡ false
+
+-- a test as the first, which no row of turn n or higher passes
 pub record Lower (n : ℕ) (f : Row → Bool) : Type 0 where
   pub opening : ByOpening f
   pub late-fails : (r : Row) → n ≤ r .turn .0 → f r ≡ false
@@ -121,5 +147,6 @@ pub record Lower (n : ℕ) (f : Row → Bool) : Type 0 where
 -- the change is the end of a request
 abbrev pub ends : {t : Table} {e : Event} {k : ℕ} → Change t e k → Bool
 ends (kept _) = false
+ends (gave _ _ _ _) = false
 ends (ended _ _ _ _) = true
 ends (began _ _ _) = false

@@ -1,5 +1,5 @@
 -- A sound table in plain propositions: what the tests of `sound` say, and that they say no more.
-use Rattle.kept.specs.Prelude.{_&&_, _++_, _<_, Bool, List, Row, Table, all, all-each, _and_, and-left, and-right, ap, arith, cond, counters, denied, denying, distinct, distinct-rows, distinct-test, each-all, eq-eqb, eqb-true, false, hold, holds, idle, idleConditions, implied, implying, le-leb, le-ltb, le-of-eq, le-zero, leb, leb-true, live, lt-ltb, ltb, ltb-false, ltb-true, none, not, not-true, nth, ownConditions, placeConditions, ranges, refl, rowIn, sound, soundRow, true, waiting, waiting-reads, waitingIn, within, ℕ, _≡_, _≤_}
+use Rattle.kept.specs.Prelude.{_&&_, _++_, _<_, Bool, List, Row, Table, all, all-each, _and_, and-left, and-right, ap, arith, cond, counters, denied, denying, distinct, distinct-rows, distinct-test, each-all, eq-eqb, eqb-true, false, hold, holds, idle, idleConditions, implied, implying, le-leb, le-ltb, le-of-eq, le-zero, leb, leb-true, live, lt-ltb, ltb, ltb-false, ltb-true, none, not, not-true, nth, or-false, or-true, ownConditions, placeConditions, ranges, refl, rowIn, sound, soundRow, sym, true, waiting, waiting-reads, waitingIn, within, _||_, ℕ, _∙_, _≡_, _≤_}
 use Rattle.kept.specs.Sound.Words.{LiveRow, SoundRow, InRange, SoundTable}
 
 -- ---- The propositions
@@ -11,6 +11,14 @@ zeros r turn declared held asked since =
 
 -- ---- Rows
 
+-- what one of two tests shows where the other fails, and back
+other-shows : (a b : Bool) → (a || b) ≡ true → b ≡ false → a ≡ true
+other-shows a b e off = sym (or-false a) ∙ ap (λ (c : Bool). a || c) (sym off) ∙ e
+
+other-showing : (a b : Bool) → (b ≡ false → a ≡ true) → (a || b) ≡ true
+other-showing a true h = or-true a
+other-showing a false h = ap (λ (c : Bool). c || false) (h refl)
+
 -- the tests of a live row
 abbrev liveRow : Table → Row → List Bool
 liveRow t r = ownConditions t r ++ placeConditions t r
@@ -19,7 +27,7 @@ module _ (t : Table) (r : Row) where
   live-row : 0 < r .turn .0 → holds (liveRow t r) ≡ true → LiveRow t r
   live-row alive e = record {
     given = leb-true _ _ (nth (liveRow t r) e 0);
-    declares = ltb-true _ _ (nth (liveRow t r) e 1);
+    declares = λ h. ltb-true _ _ (other-shows _ _ (nth (liveRow t r) e 1) (le-ltb _ _ h));
     in-range = nth (liveRow t r) e 2;
     held-declared = nth (liveRow t r) e 3;
     asked-declared = nth (liveRow t r) e 4;
@@ -38,7 +46,7 @@ module _ (t : Table) (r : Row) where
   row-live alive p =
       hold
       (le-leb _ _ (p .given)
-      and lt-ltb _ _ (p .declares)
+      and other-showing (ltb 0 (r .declared)) _ (λ f. lt-ltb _ _ (p .declares (ltb-false _ _ f)))
       and p .in-range
       and p .held-declared
       and p .asked-declared

@@ -13,12 +13,12 @@ use mathlib.Core.List.{List}
 
 -- ---- The propositions
 
--- a live row: its turn was given; it declares something, all of it below R; what it holds and asks is declared, and apart;
--- without a token it has neither; nobody earlier declares what it holds, and somebody earlier some of what it asks;
--- it waits since no later than now, and has no waiting time with a token and nothing asked
+-- a live row: its turn was given; what it declares is below R, and is something unless it has a token; what it holds and asks
+-- is declared, and apart; without a token it has neither; nobody earlier declares what it holds, and somebody earlier some of
+-- what it asks; it waits since no later than now, and has no waiting time with a token and nothing asked
 pub record LiveRow (t : Table) (r : Row) : Type 0 where
   pub given : r .turn .0 ≤ t .last .0
-  pub declares : 0 < r .declared
+  pub declares : t .tokens ≤ ahead (t .rows) (r .turn .0) → 0 < r .declared
   pub in-range : below (r .declared) (t .resources) ≡ true
   pub held-declared : inside (r .held) (r .declared) ≡ true
   pub asked-declared : inside (r .asked) (r .declared) ≡ true
