@@ -9,7 +9,7 @@ pub use native.Mathlib.Nat.{le-of-suc-le-suc, not-suc-le-zero, zero-lt-suc}
 pub use native.Mathlib.Numerals.{add-one}
 pub use native.Mathlib.Omega.{arith}
 pub use borrow.Author.Needs.{needs}
-pub use borrow.Author.Tests.{eq-eqb, ne-eqb, not-false, not-true}
+pub use borrow.Author.Tests.{eq-eqb, lt-ltb, ne-eqb, not-false, not-true}
 pub use lib.Dec.{eqb}
 pub use lib.ListN.{drop, drop-of-length-le, getD, length, length-set, set, take}
 pub use lib.Seq.{drop-cons, getD-set-other, getD-set-same, getD-take, length-take-le, take-suc-set}
@@ -23,12 +23,13 @@ pub use Rattle.rows.specs.Order.{ahead, earlier, idle, live}
 pub use Rattle.rows.specs.OrderLaws.{ahead-set}
 pub use Rattle.rows.specs.Propositions.{Distinct, openingOf}
 pub use Rattle.rows.specs.Stand.{Stands, behind, front}
+pub use Rattle.rows.specs.Sweep.{settled}
 pub use Rattle.rows.specs.SweepLaws.{length-settled, row-settled, swept-keeps, turn-settled}
 pub use Rattle.rows.specs.Turns.{at-set, live-within, not-earlier}
 pub use Rattle.rows.specs.declared.row.Row.{Row}
 pub use Rattle.rows.specs.declared.row.Turn.{Turn}
 pub use Rattle.rows.specs.declared.stand.Standing.{Standing}
 pub use Rattle.sweep.specs.Leaving.{line-besides, line-turns}
-pub use Rattle.sweep.specs.Sweeping.{completedRows}
+pub use Rattle.sweep.specs.Sweeping.{Onward, ended, settledRows, stayed}
 pub use Rattle.sweep.specs.Walking.{Walk, besides}
 pub use Rattle.sweep.specs.WalkingLaws.{line-places, one-place, walk-end, walk-alive, walk-stands, walk-start, walk-step}

@@ -33,7 +33,8 @@ pub record Appended (comes : Bool) (job len : ℕ) (before : List ℕ) (n : ℕ)
   pub list : take n after ≡ cond comes (take len before ++ job ∷ []) (take len before)
   pub long : length after ≡ jobs
 
--- the job at a place has been taken out
-pub record Removed (place len : ℕ) (before after : List ℕ) : Type 0 where
-  pub list : take (len - 1) after ≡ removed place (take len before)
+-- the job at a place, if it goes, has been taken out, and n jobs are in line then
+pub record Removed (goes : Bool) (place len : ℕ) (before : List ℕ) (n : ℕ) (after : List ℕ) : Type 0 where
+  pub number : n ≡ cond goes (len - 1) len
+  pub list : take n after ≡ cond goes (removed place (take len before)) (take len before)
   pub long : length after ≡ jobs

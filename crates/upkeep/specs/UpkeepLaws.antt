@@ -1,5 +1,5 @@
 -- What is kept is what the rows say: a job's standing and its place by the line, and the line when a job goes or comes.
-use Rattle.upkeep.specs.Prelude.{Distinct, List, Row, Standing, Stands, Turn, Walk, [], _++_, _+_, _<_, _∙_, _∷_, _≡_, _≢_, _≤_, ahead, ahead-set, ap, arith, at-set, behind, bit, completedRows, cond, earlier, eq-eqb, eqb, front, getD, getD-set-other, getD-set-same, idle, length, length-set, length-settled, line, line-besides, line-places, line-turns, live-within, ne-eqb, not-earlier, one-place, openingOf, row-settled, rowOf, set, subst, suc, swept-keeps, sym, turn-settled, union, walk-alive, walk-end, walk-stands, walk-start, walk-step, zero, ℕ, ℕ-discrete}
+use Rattle.upkeep.specs.Prelude.{Bool, Distinct, List, Onward, Row, Standing, Stands, Turn, Walk, [], _++_, _+_, _<_, _∙_, _∷_, _≡_, _≢_, _≤_, ahead, ahead-set, ap, arith, at-set, behind, bit, cond, earlier, ended, eq-eqb, eqb, front, getD, getD-set-other, getD-set-same, idle, length, length-set, length-settled, line, line-besides, line-places, line-turns, live, live-within, lt-ltb, ne-eqb, not-earlier, one-place, openingOf, refl, row-settled, rowOf, set, settled, settledRows, stayed, subst, suc, swept-keeps, sym, turn-settled, union, walk-alive, walk-end, walk-stands, walk-start, walk-step, zero, ℕ, ℕ-discrete}
 use Rattle.upkeep.specs.Removing.{removed-besides, removed-last}
 use Rattle.upkeep.specs.Upkeep.{Declares, removed, standingIn}
 
@@ -80,13 +80,23 @@ module _ (rows : List Row) (apart : Distinct rows) (k : ℕ) (alive : 0 < rowOf 
       removed-besides (line rows) own k (line-place .0) (line-place .1) line-once
       ∙ sym (line-besides rows k (live-within rows k alive))
 
-  -- that is the line after its completion, for the sweep moves no turn
-  pub line-completed : (T : ℕ) → removed own (line rows) ≡ line (completedRows T rows k)
-  line-completed T =
-      line-without
-      ∙ sym
-      (line-turns (completedRows T rows k) (set rows k idle) (λ j. ap (λ (t : Turn). t .0) (turn-settled T (set rows k idle) j))
-      (length-settled T (set rows k idle)))
+  -- that is the line after its request has ended, for the sweep moves no turn; if it goes on, the line stays
+  pub line-settled :
+      (T : ℕ) (x : Row) → Onward (rowOf rows k) x → line (settledRows T rows k x) ≡ cond (live x) (line rows) (removed own (line rows))
+  line-settled T x onward =
+      line-turns (settledRows T rows k x) (set rows k x) (λ j. ap (λ (t : Turn). t .0) (turn-settled T (set rows k x) j))
+      (length-settled T (set rows k x))
+      ∙ go onward
+    where
+      go : Onward (rowOf rows k) x → line (set rows k x) ≡ cond (live x) (line rows) (removed own (line rows))
+      go (ended e) =
+          ap (λ (r : Row). line (set rows k r)) e ∙ sym line-without
+          ∙ sym (ap (λ (r : Row). cond (live r) (line rows) (removed own (line rows))) e)
+      go (stayed turn _ _) =
+          line-turns (set rows k x) rows
+          (at-set (λ j r. r .turn .0 ≡ rowOf rows j .turn .0) rows k x (live-within rows k alive) turn (λ j other. refl))
+          (length-set rows k x)
+          ∙ sym (ap (λ (b : Bool). cond b (line rows) (removed own (line rows))) (lt-ltb 0 (x .turn .0) (omega arith)))
 
 -- ---- Who comes
 
@@ -127,14 +137,9 @@ declares-set rows column k x within fits declares =
     (λ alive. getD-set-same column k (x .declared) 0 fits)
     (λ j other alive. getD-set-other column k j (x .declared) 0 other ∙ declares j alive)
 
--- a completion changes none of those that stay
-pub declares-completed :
-    (T : ℕ) (rows : List Row) (column : List ℕ) (k : ℕ) → k < length rows → Declares rows column → Declares (completedRows T rows k) column
-declares-completed T rows column k within declares j alive =
-    let left = set rows k idle in
-    let kept : openingOf (rowOf (completedRows T rows k) j) ≡ openingOf (rowOf left j) =
-    ap openingOf (row-settled T left j) ∙ swept-keeps T left (rowOf left j) in
-    let stays : getD column j 0 ≡ rowOf left j .declared =
-    at-set (λ i r. 0 < r .turn .0 → getD column i 0 ≡ r .declared) rows k idle within (λ h. absurd (omega arith))
-    (λ i other h. declares i h) j (omega (arith, ap (λ (r : Row). r .turn .0) kept)) in
-    stays ∙ sym (ap (λ (r : Row). r .declared) kept)
+-- the sweep changes none
+pub declares-settled : (T : ℕ) (rows : List Row) (column : List ℕ) → Declares rows column → Declares (settled T rows) column
+declares-settled T rows column declares j alive =
+    let kept : openingOf (rowOf (settled T rows) j) ≡ openingOf (rowOf rows j) =
+    ap openingOf (row-settled T rows j) ∙ swept-keeps T rows (rowOf rows j) in
+    declares j (omega (arith, ap (λ (r : Row). r .turn .0) kept)) ∙ sym (ap (λ (r : Row). r .declared) kept)

@@ -72,14 +72,19 @@ pub fn append(line: &mut [u8; JOBS], len: usize, job: u8, comes: bool) -> usize
     len + 1
 }
 
-// Takes the job at a place out of the line of the first len jobs: those behind it move up.
-pub fn remove(line: &mut [u8; JOBS], len: usize, place: usize)
+// Takes the job at a place out of the line of the first len jobs if it goes: those behind it move up; how many jobs are in
+// line then.
+pub fn remove(line: &mut [u8; JOBS], len: usize, place: usize, goes: bool) -> usize
     requires { ⌜ (place < len) × (len ≤ jobs) × (length (now line) ≡ jobs) ⌝ }
-    ensures { λ _. ⌜ Removed place len (now (line .entry)) (now (line .exit)) ⌝ }
+    ensures { λ n. ⌜ Removed goes place len (now (line .entry)) n (now (line .exit)) ⌝ }
 {
+    if !goes {
+        return len;
+    }
     let mut p = place;
     while p + 1 < len {
         line[p] = line[p + 1];
         p += 1;
     }
+    len - 1
 }
