@@ -3,6 +3,13 @@ use Rattle.upkeep.specs.Prelude.{Bool, Distinct, List, Onward, Row, Stan
 use Rattle.upkeep.specs.Removing.{removed-besides, removed-last}
 use Rattle.upkeep.specs.Upkeep.{Declares, removed, standingIn}
 
+-- with a row of the same turn in its place, the line is the same
+pub line-same :
+    (rows : List Row) (k : ℕ) (x : Row) → k < length rows → x .turn .0 ≡ rowOf rows k .turn .0 → line (set rows k x) ≡ line rows
+line-same rows k x within same =
+    line-turns (set rows k x) rows (at-set (λ j r. r .turn .0 ≡ rowOf rows j .turn .0) rows k x within same (λ j other. refl))
+    (length-set rows k x)
+
 -- ---- Where a job stands, and who goes
 
 module _ (rows : List Row) (apart : Distinct rows) (k : ℕ) (alive : 0 < rowOf rows k .turn .0) where
@@ -93,9 +100,7 @@ module _ (rows : List Row) (apart : Distinct rows) (k : ℕ) (alive : 0 < rowOf 
           ap (λ (r : Row). line (set rows k r)) e ∙ sym line-without
           ∙ sym (ap (λ (r : Row). cond (live r) (line rows) (removed own (line rows))) e)
       go (stayed turn _ _) =
-          line-turns (set rows k x) rows
-          (at-set (λ j r. r .turn .0 ≡ rowOf rows j .turn .0) rows k x (live-within rows k alive) turn (λ j other. refl))
-          (length-set rows k x)
+          line-same rows k x (live-within rows k alive) turn
           ∙ sym (ap (λ (b : Bool). cond b (line rows) (removed own (line rows))) (lt-ltb 0 (x .turn .0) (omega arith)))
 
 -- ---- Who comes
