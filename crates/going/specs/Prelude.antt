@@ -21,24 +21,24 @@ pub use Rattle.event.specs.Limits.{jobs}
 pub use Rattle.event.specs.Refusals.{numberOf}
 pub use Rattle.event.specs.declared.events.Entry.{Entry}
 pub use Rattle.event.specs.declared.events.Event.{Event}
-pub use Rattle.event.specs.declared.events.Event.the-variants.{Ask, Beat, Complete, Open, Release}
 pub use Rattle.event.specs.declared.events.Parts.{Parts}
 pub use Rattle.event.specs.declared.refusal.Refusal.{Refusal}
 pub use Rattle.rows.specs.Order.{ahead, idle}
 pub use Rattle.rows.specs.Stand.{Stands}
+pub use Rattle.rows.specs.declared.row.Row.{Row}
 unfoldable pub use Rattle.soundness.specs.Beside.{soundBy}
 pub use Rattle.soundness.specs.declared.Bounds.{Bounds}
-pub use Rattle.sweep.specs.Sweeping.{Acts, Completed}
-pub use Rattle.sweep.specs.declared.completion.Swept.{Swept}
+pub use Rattle.sweep.specs.Sweeping.{Acts, Onward, Settles}
+pub use Rattle.sweep.specs.declared.settling.Swept.{Swept}
 pub use Rattle.upkeep.specs.Upkeep.{Appended, Removed}
 pub use Rattle.arbiter.specs.Answering.{accepted-answers-into, refused-answers-into}
 pub use Rattle.arbiter.specs.Answers.{saidOf}
 pub use Rattle.decision.specs.Accepting.{saw-sound}
-pub use Rattle.arbiter.specs.Carrying.{changes-answer, completion-does, long-cases, may-act}
+pub use Rattle.arbiter.specs.Carrying.{changes-answer, long-cases, may-act, settling-does, writes-onward}
 pub use Rattle.arbiter.specs.Bounded.{boundsOf}
 pub use Rattle.arbiter.specs.ChangeLaws.{Decides, changeOn, sound-by, sound-last}
 pub use Rattle.decision.specs.Changes.{decided, refusalCases}
-pub use Rattle.arbiter.specs.Meaning.{moved, wakes, timeAt}
+pub use Rattle.arbiter.specs.Meaning.{moved, wakes}
 unfoldable pub use Rattle.arbiter.specs.Meaning.{answer, listed, next}
 pub use Rattle.arbiter.specs.Promises.{AnsweredInto}
 pub use Rattle.arbiter.specs.Refusals.{cases, seenIn}

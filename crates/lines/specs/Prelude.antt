@@ -16,7 +16,7 @@ pub use Rattle.laws.specs.FrontLaws.{take-min, then, wrote-length, wrote-none}
 pub use Rattle.decimal.specs.Text.{ascii, text}
 pub use Rattle.decimal.specs.TextLaws.{length-text, length-text-u64}
 pub use Rattle.event.specs.declared.events.Event.{Event}
-pub use Rattle.event.specs.declared.events.Event.the-variants.{Ask, Beat, Complete, Open, Release}
+pub use Rattle.event.specs.declared.events.Event.the-variants.{Ask, Beat, Complete, GiveUp, Open, Release}
 pub use Rattle.rows.specs.Order.{blocked, token}
 pub use Rattle.arbiter.specs.Answers.{Said, saysGranted, saysToken, saysWait}
 unfoldable pub use Rattle.arbiter.specs.Meaning.{answer, listed}
