@@ -24,7 +24,7 @@ pub use Rattle.laws.specs.GoneLaws.{gone-balance, gone-none}
 pub use Rattle.laws.specs.HoldLaws.{hold, nth}
 unfoldable pub use Rattle.laws.specs.Lists.{all, count, gone}
 pub use Rattle.laws.specs.Lists.{holds}
-pub use Rattle.laws.specs.SetLaws.{inside-empty, inside-reads, inside-refl, inside-trans, inside-union, meets-comm, meets-empty, meets-inside, meets-reads, member-empty, member-without, union-empty, union-self, without-inside}
+pub use Rattle.laws.specs.SetLaws.{ext, inside-empty, inside-reads, inside-refl, inside-trans, inside-union, meets-comm, meets-empty, meets-inside, meets-reads, member-empty, member-union, member-without, union-empty, union-self, without-inside}
 unfoldable pub use Rattle.laws.specs.Sets.{below, inside, meet, meets, union, without}
 pub use Rattle.laws.specs.Sets.{member}
 pub use Rattle.event.specs.Clock.{clockRefusals}

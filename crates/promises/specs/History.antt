@@ -1,6 +1,7 @@
 -- What holds along whole histories of events.
 pub mod Count
 pub mod Events
+pub mod Partings
 pub mod Row
 pub mod Turn
 pub mod Woken

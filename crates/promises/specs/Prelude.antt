@@ -14,12 +14,13 @@ pub use Rattle.laws.specs.Bools.{bit}
 pub use Rattle.laws.specs.CaseLaws.{acceptance-tells, first-front}
 pub use Rattle.laws.specs.Cases.{Case, Outcome, fine, keepUnless, refused, unless, when}
 unfoldable pub use Rattle.laws.specs.Cases.{case, first, leaves, outcome}
-pub use Rattle.laws.specs.Counts.{count-mono}
+pub use Rattle.laws.specs.Counts.{count-mono, count-sum}
 unfoldable pub use Rattle.laws.specs.Front.{over}
 pub use Rattle.laws.specs.GoneLaws.{gone-mono, gone-none, gone-same}
 unfoldable pub use Rattle.laws.specs.Lists.{all, count, gone}
-pub use Rattle.laws.specs.SetLaws.{union-empty}
+pub use Rattle.laws.specs.SetLaws.{inside-reads, meets-comm, meets-inside, meets-reads, union-empty, without-inside}
 unfoldable pub use Rattle.laws.specs.Sets.{below, inside, meet, meets, union, without}
+pub use Rattle.laws.specs.Sets.{member}
 pub use Rattle.event.specs.Clock.{difference, goneBack, timeSpent}
 unfoldable pub use Rattle.event.specs.Clock.{forward}
 pub use Rattle.event.specs.Events.{about, refusalsOf, hasJob, jobOf, names, opens, setOf, tickOf}
@@ -27,7 +28,7 @@ pub use Rattle.event.specs.Limits.{jobs}
 pub use Rattle.event.specs.RefusalLaws.{some-first}
 pub use Rattle.event.specs.Refusals.{among, casesBy, numberOf, refusing}
 pub use Rattle.event.specs.declared.clock.Tick.{Tick}
-pub use Rattle.event.specs.declared.events.Event.the-variants.{Ask, Beat, Complete, Open, Release}
+pub use Rattle.event.specs.declared.events.Event.the-variants.{Ask, Beat, Complete, GiveUp, Open, Release}
 pub use Rattle.event.specs.declared.refusal.Refusal.{Refusal}
 pub use Rattle.event.specs.declared.refusal.Refusal.the-variants.{AlreadyHeld, AlreadyLive, BadStart, BitSet, ClockGoneBack, EmptySet, NoSuchJob, NoSuchResource, NoToken, NotDeclared, NotHeld, NotLive, ShortList, StartOutOfPlace, StillWaiting, TimeSpent, TurnsSpent, UnknownKind, UnknownVersion, UnsoundTable, WrongLength, WrongSize}
 pub use Rattle.rows.specs.InLine.{lined-in-turn, listed-once}
@@ -36,13 +37,12 @@ unfoldable pub use Rattle.rows.specs.Line.{keep, lined, place, under}
 pub use Rattle.rows.specs.Line.{line, rowOf}
 unfoldable pub use Rattle.rows.specs.Order.{ahead, distinct, inWay}
 pub use Rattle.rows.specs.Order.{blocked, claims, earlier, idle, live, token, waiting}
-pub use Rattle.rows.specs.Propositions.{openingOf}
-pub use Rattle.rows.specs.OrderLaws.{ahead-set}
+pub use Rattle.rows.specs.OrderLaws.{ahead-set, in-way-set}
 unfoldable pub use Rattle.rows.specs.Propositions.{InTurn}
 pub use Rattle.rows.specs.Sweep.{grantedRow, restedRow, sweptRow, woke}
 unfoldable pub use Rattle.rows.specs.Sweep.{settled, woken}
-pub use Rattle.rows.specs.SweepLaws.{granted-keeps, swept-idle, swept-keeps}
-pub use Rattle.rows.specs.Turns.{earlier-turn, not-earlier, turn-earlier, waiting-reads}
+pub use Rattle.rows.specs.SweepLaws.{granted-keeps, in-way-settled, swept-idle, swept-keeps}
+pub use Rattle.rows.specs.Turns.{earlier-turn, live-within, not-earlier, turn-earlier, waiting-reads}
 pub use Rattle.rows.specs.declared.row.Row.{Row}
 pub use Rattle.arbiter.specs.Answers.{Said, saysDone, saysGranted, saysToken, saysWait, saysWoke}
 pub use Rattle.arbiter.specs.Meaning.{accepted, lastAfter, late, moved, openedRow, reported, rowAfter, rowsAfter, rowsWith, run, said, timeAt, wakes}
@@ -53,6 +53,6 @@ unfoldable pub use Rattle.arbiter.specs.Sound.{sound}
 pub use Rattle.arbiter.specs.declared.table.Report.{Report}
 pub use Rattle.arbiter.specs.declared.table.Table.{Table}
 pub use Rattle.record.specs.Format.{encode}
-pub use Rattle.request.specs.Change.{releasing}
+pub use Rattle.request.specs.Change.{givingUp, releasing}
 pub use Rattle.questions.specs.Late.{lateJob}
 unfoldable pub use Rattle.questions.specs.Late.{lateIn}

@@ -1,10 +1,10 @@
 -- One history, computed: it meets every hypothesis of demand 3, with more than T-1 before the opening, a set that waits,
 -- three before it of whom two are in its way, a completion that wakes two, and refused events and a later request between.
-use Rattle.promises.specs.Prelude.{_++_, _-_, Ask, Beat, Bool, Complete, List, Open, Outcome, Report, Row, Said, Table, Tick, [], ahead, all, answer, ap, below, claims, count, course, distinct, false, fine, first, under, gone, idle, inWay, inside, jobs, keep, leaves, lined, meet, meets, next, outcome, place, refl, refused, replicate, report, rowIn, run, saysWait, saysWoke, settled, sound, startAnswer, startTable, sym, true, union, woken, ℕ, _∙_, _∷_, _≡_}
+use Rattle.promises.specs.Prelude.{Ask, Beat, Bool, Complete, List, Open, Outcome, Report, Row, Said, Table, Tick, [], _++_, _-_, _∙_, _∷_, _≡_, ahead, all, answer, ap, below, claims, count, course, distinct, false, fine, first, gone, idle, inWay, inside, jobs, keep, leaves, length, lined, meet, meets, next, outcome, place, refl, refused, replicate, report, rowIn, run, saysWait, saysWoke, settled, sound, startAnswer, startTable, sym, true, under, union, woken, ℕ}
 use Rattle.event.specs.declared.events.Event.{Event}
 use Rattle.promises.specs.Demand.Statement.{Demand3, Supposed, afterOpening, n, now, p}
 use Rattle.promises.specs.Demand.Holds.{demand3}
-use Rattle.promises.specs.History.Words.{leavings, lists, leavingsOf, Arbiter, ours}
+use Rattle.promises.specs.History.Words.{leavings, lists, tallyOf, Arbiter, ours}
 
 -- the tick of that number
 abbrev pub at : ℕ → Tick
@@ -38,28 +38,29 @@ this f = f ours 4 6 4294967280 50 past 6 (at 4294967286) 37 (latecomer ∷ until
 
 -- ---- Its tables, written out
 
--- job 0 is idle, then come these, and all others are idle
-abbrev table : ℕ → List Row → Table
-table time rows =
+-- so many turns are given, these are the first rows, and all others are idle
+abbrev pub table : ℕ → ℕ → List Row → Table
+table last time rows =
     record {
       tokens = 4;
       resources = 6;
       limit = 50;
       time = time;
-      last = record { 0 = 7 };
-      rows = idle ∷ rows ++ replicate (jobs - 8) idle;
+      last = record { 0 = last };
+      rows = rows ++ replicate (jobs - length rows) idle;
     }
 
 -- a row that holds nothing
-abbrev row : ℕ → ℕ → ℕ → ℕ → Row
+abbrev pub row : ℕ → ℕ → ℕ → ℕ → Row
 row turn declared asked since =
     record { turn = record { 0 = turn }; declared = declared; held = 0; asked = asked; since = since }
 
 -- when 7 has opened: 1 to 4 have the tokens
 abbrev pub all-open : Table
 all-open =
-    table 4294967290
-    (row 1 3 0 0
+    table 7 4294967290
+    (idle
+    ∷ row 1 3 0 0
     ∷ row 2 6 0 0
     ∷ row 3 2 0 0
     ∷ row 4 8 0 0
@@ -71,13 +72,13 @@ all-open =
 -- when 6 has its token
 abbrev pub token-come : Table
 token-come =
-    table 4294967300 (row 1 3 0 0 ∷ row 2 6 0 0 ∷ row 3 2 0 0 ∷ idle ∷ idle ∷ row 6 37 0 0 ∷ row 7 1 0 4294967290 ∷ [])
+    table 7 4294967300 (idle ∷ row 1 3 0 0 ∷ row 2 6 0 0 ∷ row 3 2 0 0 ∷ idle ∷ idle ∷ row 6 37 0 0 ∷ row 7 1 0 4294967290 ∷ [])
 
 -- when 1 has completed, and 3 and 6 wait for what they asked
 abbrev pub set-waits : Table
 set-waits =
-    table 4294967302
-    (idle ∷ row 2 6 0 0 ∷ row 3 2 2 4294967301 ∷ idle ∷ idle ∷ row 6 37 5 4294967301 ∷ row 7 1 0 0 ∷ [])
+    table 7 4294967302
+    (idle ∷ idle ∷ row 2 6 0 0 ∷ row 3 2 2 4294967301 ∷ idle ∷ idle ∷ row 6 37 5 4294967301 ∷ row 7 1 0 0 ∷ [])
 
 -- each leads to the next
 pub record Tables : Type 0 where
@@ -126,7 +127,7 @@ pub record Shown : Type 0 where
   pub wakes : lists set-waits (Complete 2 (at 7)) ≡ 3 ∷ 6 ∷ []
 
 pub shown : Shown
-unfolding answers leavingsOf gone answer outcome startTable course next leaves first sound all distinct count ahead inWay below inside meet meets settled union woken keep lined under place
+unfolding answers tallyOf gone answer outcome startTable course next leaves first sound all distinct count ahead inWay below inside meet meets settled union woken keep lined under place
 shown =
     record {
       behind = refl;
@@ -140,19 +141,19 @@ shown =
 
 -- ---- As far as it can be observed
 
--- a report of job 6, whose turn is 6
-abbrev six : Bool → Bool → ℕ → ℕ → Outcome Report
-six token waiting ahead way =
-    fine (record { turn = record { 0 = 6 }; token = token; waiting = waiting; ahead = ahead; «in_way» = way })
+-- a report of the request of a turn
+abbrev pub reporting : ℕ → Bool → Bool → ℕ → ℕ → Outcome Report
+reporting turn token waiting ahead way =
+    fine (record { turn = record { 0 = turn }; token = token; waiting = waiting; ahead = ahead; «in_way» = way })
 
 -- what an arbiter reports, lists and leaves along this history; a wrong one fails here
 pub record Observed (a : Arbiter) : Type 0 where
   -- two completions are due; a refused one does not count, and after one there is no token
-  pub refused-one : a .report (a .next all-open (Complete 5 (at 1))) 6 ≡ six false true 5 2
-  pub one-gone : a .report (a .next all-open (Complete 4 (at 2))) 6 ≡ six false true 4 2
-  pub two-gone : a .report (course (a .next) all-open until) 6 ≡ six true false 3 2
+  pub refused-one : a .report (a .next all-open (Complete 5 (at 1))) 6 ≡ reporting 6 false true 5 2
+  pub one-gone : a .report (a .next all-open (Complete 4 (at 2))) 6 ≡ reporting 6 false true 4 2
+  pub two-gone : a .report (course (a .next) all-open until) 6 ≡ reporting 6 true false 3 2
   -- one of the two in the way has completed; with the other the job is listed, and its set is held whole
-  pub three-gone : a .report set-waits 6 ≡ six true true 2 1
+  pub three-gone : a .report set-waits 6 ≡ reporting 6 true true 2 1
   pub listed : a .lists set-waits (Complete 2 (at 7)) ≡ 3 ∷ 6 ∷ []
   pub held : rowIn (a .next set-waits (Complete 2 (at 7))) 6 .held ≡ 5
 

@@ -1,14 +1,16 @@
 -- Demand 3 holds of every history.
-use Rattle.promises.specs.Prelude.{_+_, _-_, Ask, Bool, List, Open, Report, Row, Table, Tick, acceptance-tells, ahead, ap, arith, claims, cond, count, earlier, fine, idle, inWay, jobs, leb, length-replicate, live, ltb, refl, report, reportCases, reported, rowIn, run, saysDone, saysToken, saysWait, startAnswer, startTable, subst, sym, token, ℕ, _∙_, _≡_, _≤_}
+use Rattle.promises.specs.Prelude.{Ask, Bool, GiveUp, List, Open, Report, Table, Tick, _+_, _-_, _∙_, _≡_, _≤_, acceptance-tells, ahead, ap, arith, bit, cond, count, earlier, false, fine, idle, inWay, jobs, leb, length-replicate, live, ltb, refl, report, reportCases, reported, rowIn, run, saysDone, saysToken, saysWait, startAnswer, startTable, subst, sym, token, true, without, ℕ}
 use Rattle.event.specs.declared.events.Event.{Event}
-use Rattle.promises.specs.Demand.Statement.{Demand3, Supposed, afterOpening, before, n, now}
-use Rattle.promises.specs.Demand.Others.{leavings-heeded, run-heeded, unmoved, way-bounded}
+use Rattle.promises.specs.Demand.Statement.{Demand3, HasParted, Supposed, afterOpening, before, n, now}
+use Rattle.promises.specs.Demand.GivenUp.{gone-for-good}
+use Rattle.promises.specs.Demand.Others.{run-heeded, tally-heeded, unmoved, way-bounded}
 use Rattle.promises.specs.Demand.Sets.{ask-granted, ask-has-token, ask-says}
 use Rattle.promises.specs.Demand.Token.{ahead-opened, all-before, along-opened, below-at-most, declared-opened, token-by-all, token-by-earlier, token-told}
 use Rattle.promises.specs.History.Events.{accepts}
-use Rattle.promises.specs.History.Words.{leavings, Along, Bears, ours}
-use Rattle.promises.specs.History.Count.{along-run, way-run}
-use Rattle.promises.specs.History.Turn.{back-run}
+use Rattle.promises.specs.History.Words.{Along, Bears, givenUp, inItsWay, leaving, leavings, ours, partingBy, partings}
+use Rattle.promises.specs.History.Count.{along-run}
+use Rattle.promises.specs.History.Partings.{parted-run, stays-parted}
+use Rattle.promises.specs.History.Turn.{declared-run}
 use Rattle.kept.specs.Soundness.{start-fresh, start-ranges}
 use Rattle.kept.specs.Words.{Accepts}
 use Rattle.kept.specs.Accepted.{answer-accepted}
@@ -61,24 +63,31 @@ module _ (T R begin limit : ℕ) (past : List Event) (j : ℕ) (tick : Tick) (s 
   pub bears : Bears T turn j table
   bears = record { along = along-run along later; some = omega arith; turn = given .lives }
 
-  -- the request declares at any time what it was opened with
-  declares : (since : List Event) → rowIn (run table since) j .turn .0 ≡ turn → rowIn (run table since) j .declared ≡ s
-  declares since q =
-      ap (λ (r : Row). r .declared)
-      (back-run table (bears .along) (bears .some) j since q ∙ back-run opened-table along (bears .some) j later (given .lives))
-      ∙ declared-opened first-table along-past j tick s open-ok
+  -- the request declares what it was opened with, without what it has given up
+  still-declares : rowIn table j .declared ≡ without s (givenUp j opened-table later)
+  still-declares =
+      declared-run opened-table along (bears .some) j later (given .lives)
+      ∙ ap (λ (d : ℕ). without d (givenUp j opened-table later)) (declared-opened first-table along-past j tick s open-ok)
 
   way-reported :
       (since : List Event) (r : Report) → report (run table since) j ≡ fine r → r .turn .0 ≡ turn →
-      r .«in_way» + leavings (claims turn s) table since ≡ inWay (table .rows) turn s
+      r .«in_way» + partings j table since ≡ inWay (table .rows) turn (rowIn table j .declared)
   unfolding report
   way-reported since r q same =
       let end = run table since in
       let is : reported end (rowIn end j) ≡ r = acceptance-tells {B = ℕ} (reportCases end j) (reported end (rowIn end j)) r q .1 in
       let still : rowIn end j .turn .0 ≡ turn = ap (λ (r : Report). r .turn .0) is ∙ same in
-      let number : r .«in_way» ≡ inWay (end .rows) turn s =
-      ap (λ (r : Report). r .«in_way») (sym is) ∙ (λ i. inWay (end .rows) (still i) (declares since still i)) in
-      omega (arith, way-run table (bears .along) since s)
+      let number : r .«in_way» ≡ inWay (end .rows) turn (rowIn end j .declared) =
+      ap (λ (r : Report). r .«in_way») (sym is) ∙ ap (λ (m : ℕ). inWay (end .rows) m (rowIn end j .declared)) still in
+      omega (arith, parted-run table (bears .along) (bears .some) j since still)
+
+  parted-once :
+      (k : ℕ) (since : List Event) → earlier turn (rowIn table k) ≡ true → inItsWay table j (rowIn table k) ≡ false →
+      rowIn (run table since) k .turn .0 ≡ rowIn table k .turn .0 → rowIn (run table since) j .turn .0 ≡ turn →
+      HasParted j k (run table since)
+  parted-once k since before parted same still =
+      let out = stays-parted table (bears .along) (bears .some) j k since still before same parted in
+      record { out = out; completes = λ at. ap bit out }
 
   token-comes : token T (table .rows) turn ≡ leb (count live (first-table .rows) - (T - 1)) (leavings live opened-table later)
   token-comes =
@@ -110,13 +119,17 @@ module _ (T R begin limit : ℕ) (past : List Event) (j : ℕ) (tick : Tick) (s 
         ask-has-token = λ at x h. ask-has-token bears at x (accepts table (Ask j at x) h);
         ask-says = λ at x h. ask-says bears at x (accepts table (Ask j at x) h);
         ask-granted = λ at x h. ask-granted bears at x (accepts table (Ask j at x) h);
-        way-bounded = way-bounded T (table .rows) turn s;
+        still-declares = still-declares;
+        way-bounded = way-bounded T (table .rows) turn (rowIn table j .declared);
         way-reported = way-reported;
+        parted-once = parted-once;
+        given-up-for-good = λ at x h since still. gone-for-good bears at x (accepts table (GiveUp j at x) h) since still;
         token-by-earlier =
             token-by-earlier some opened-table along later
             ∙ ap (λ (p : ℕ). leb (p - (T - 1)) (leavings (earlier turn) opened-table later)) behind;
         later-unseen = unmoved table (bears .along);
         refused-before = run-heeded (startTable T R begin limit) past;
         refused-since = run-heeded opened-table later;
-        refused-uncounted = λ f. leavings-heeded f opened-table later;
+        refused-uncounted = λ f. tally-heeded (leaving f) opened-table later;
+        refused-unparted = tally-heeded (λ t. partingBy t j) table;
       }

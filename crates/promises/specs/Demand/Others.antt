@@ -1,11 +1,11 @@
 -- Who enters a request's history and who does not: those in its way, later requests, refused events.
-use Rattle.promises.specs.Prelude.{_&&_, _+_, _-_, _<_, Bool, List, Row, Table, [], accepted, ahead, and-not-self, ap, ap₂, arith, bit, cond, count, course, eqb, false, gone, gone-none, idle, in-way-ahead, inWay, jobs, live, lt-ltb, ltb-true, next, not, refl, rowIn, run, sym, token, true, true≢false, waiting, wakes, zero-add, ℕ, _∙_, _∷_, _≡_, _≤_}
+use Rattle.promises.specs.Prelude.{Bool, List, Row, Table, [], _&&_, _+_, _-_, _<_, _∙_, _∷_, _≡_, _≤_, accepted, ahead, and-left, and-not-self, ap, ap₂, arith, bit, cond, count, course, eqb, false, gone, gone-none, idle, in-way-ahead, inWay, jobs, live, lt-ltb, ltb-true, next, not, refl, rowIn, run, sym, token, true, true≢false, waiting, wakes, zero-add, ℕ}
 use Rattle.event.specs.declared.events.Event.{Event}
 use Rattle.promises.specs.Demand.Statement.{Beside, Unmoved}
-use Rattle.promises.specs.History.Words.{heeded, leaving, leavings, taken, Along, Bears, leavingsOf, heededBy, ours}
+use Rattle.promises.specs.History.Words.{Along, Bears, heeded, heededBy, ours, taken, tallyOf}
 use Rattle.promises.specs.History.Events.{next-either}
-use Rattle.kept.specs.Changes.{ahead-accepted, changes, left-by, lower-ahead, lower-way, way-accepted}
-use Rattle.kept.specs.Words.{ends, ByOpening, Change, began, ended, kept, Accepts, Alike}
+use Rattle.kept.specs.Changes.{ahead-accepted, changes, leaves-by-own, lower-ahead, lower-way, way-accepted}
+use Rattle.kept.specs.Words.{Accepts, Alike, ByOpening}
 use Rattle.promises.specs.History.Row.{row-after, swept-alike, swept-rests}
 use Rattle.promises.specs.History.Woken.{listed-after}
 use Rattle.kept.specs.Accepted.{was-sound}
@@ -23,15 +23,15 @@ beside-stays :
     {f : Row → Bool} (opening : ByOpening f) (n : ℕ) (t : Table) (e : Event) → Accepts jobs t e → Beside n t e →
     ((r : Row) → n < r .turn .0 → f r ≡ false) → gone f (t .rows) (accepted t e .rows) ≡ 0
 beside-stays {f} opening n t e ok aside late =
-    gone-none idle f (t .rows) (accepted t e .rows)
-    (λ k. left-by opening t e k (changes jobs t e ok k) ∙ go k (changes jobs t e ok k))
+    gone-none idle f (t .rows) (accepted t e .rows) (λ k. stays k _ refl)
   where
-    go : (k : ℕ) (c : Change t e k) → (ends c && f (rowIn t k)) ≡ false
-    go k (kept _) = refl
-    go k (ended _ named a _) =
-        let above : ¬ (rowIn t k .turn .0 ≤ n) = λ low. true≢false (sym named ∙ aside k (lt-ltb 0 (rowIn t k .turn .0) (a .alive)) low) in
-        late (rowIn t k) (omega arith)
-    go k (began _ _ _) = refl
+    stays : (k : ℕ) (b : Bool) → (f (rowIn t k) && not (f (rowIn (accepted t e) k))) ≡ b → b ≡ false
+    stays k true gone =
+        let own = leaves-by-own t e k opening (changes jobs t e ok k) gone in
+        let above : ¬ (rowIn t k .turn .0 ≤ n) = λ low.
+        true≢false (sym (own .1) ∙ aside k (lt-ltb 0 (rowIn t k .turn .0) (own .2 .alive)) low) in
+        sym (and-left (f (rowIn t k)) (not (f (rowIn (accepted t e) k))) gone) ∙ late (rowIn t k) (omega arith)
+    stays k false gone = refl
 
 module _ {T n : ℕ} (t : Table) (along : Along T n t) (e : Event) (aside : Beside n t e) where
   abbrev turn : ℕ → ℕ
@@ -107,18 +107,19 @@ run-heeded t (e ∷ es) =
     (λ q. ap (λ (u : Table). run u rest) q ∙ same)
     refl
 
--- and by them as many requests leave
-pub leavings-heeded : (f : Row → Bool) (t : Table) (es : List Event) → leavings f t (heeded t es) ≡ leavings f t es
-unfolding leavingsOf heededBy
-leavings-heeded f t [] = refl
-leavings-heeded f t (e ∷ es) =
+-- and whatever is counted of accepted events, they count as much
+pub tally-heeded :
+    (number : Table → Event → ℕ) (t : Table) (es : List Event) → tallyOf ours number t (heeded t es) ≡ tallyOf ours number t es
+unfolding tallyOf heededBy
+tally-heeded number t [] = refl
+tally-heeded number t (e ∷ es) =
     let rest = heeded (next jobs t e) es in
-    let same = leavings-heeded f (next jobs t e) es in
+    let same = tally-heeded number (next jobs t e) es in
     next-either t e
     (λ b u.
     taken t e ≡ b → u ≡ next jobs t e →
-    leavings f t (cond b (e ∷ rest) rest) ≡ cond b (leaving f t e) 0 + leavings f (next jobs t e) es)
-    (λ ok h q. ap₂ _+_ (ap (λ (b : Bool). cond b (leaving f t e) 0) h) same)
-    (λ h q. ap (λ (u : Table). leavings f u rest) q ∙ same ∙ sym (zero-add (leavings f (next jobs t e) es)))
+    tallyOf ours number t (cond b (e ∷ rest) rest) ≡ cond b (number t e) 0 + tallyOf ours number (next jobs t e) es)
+    (λ ok h q. ap₂ _+_ (ap (λ (b : Bool). cond b (number t e) 0) h) same)
+    (λ h q. ap (λ (u : Table). tallyOf ours number u rest) q ∙ same ∙ sym (zero-add (tallyOf ours number (next jobs t e) es)))
     refl
     refl

@@ -1,4 +1,4 @@
--- The set that a request asks for: asked whole while an earlier-opened live request declares a member, then held whole.
+-- The set that a request asks for: asked whole while an earlier-opened live request still declares a member, then held whole.
 use Rattle.promises.specs.Prelude.{_&&_, _<_, Ask, Bool, List, Row, Table, Tick, [], accepted, ahead, answer, ap, arith, bit, blocked, case, cond, count, course, eqb, eqb-false, false, fine, inWay, jobs, lt-ltb, ltb, ltb-true, names, next, not, refl, rowIn, run, subst, sym, token, true, true≢false, union, waiting, wakes, ℕ, _∙_, _∷_, _≡_}
 use Rattle.event.specs.declared.events.Event.{Event}
 use Rattle.arbiter.specs.Answers as Answers

@@ -6,19 +6,21 @@ use mathlib.Core.Path.{_≡_}
 use lib.Dec.{eqb, leb}
 use Rattle.event.specs.declared.clock.Tick.{Tick}
 use Rattle.event.specs.declared.events.Event.{Event}
-use Rattle.event.specs.declared.events.Event.the-variants.{Open, Ask}
+use Rattle.event.specs.declared.events.Event.the-variants.{Ask, Complete, GiveUp, Open}
 use Rattle.laws.specs.Bools.{bit}
-use Rattle.laws.specs.Cases.{fine}
+use Rattle.laws.specs.Cases.{case, fine}
 use Rattle.laws.specs.Lists.{count}
-use Rattle.laws.specs.Sets.{meets, union}
-use Rattle.rows.specs.Order.{ahead, blocked, claims, earlier, inWay, live, token}
+use Rattle.laws.specs.Sets.{meets, union, without}
+use Rattle.rows.specs.Order.{ahead, blocked, earlier, inWay, live, token}
 use Rattle.rows.specs.declared.row.Row.{Row}
 use Rattle.arbiter.specs.Answers.{saysDone, saysGranted, saysToken, saysWait}
 use Rattle.arbiter.specs.Meaning.{course, startAnswer, startTable}
 use Rattle.arbiter.specs.declared.table.Report.{Report}
 use Rattle.arbiter.specs.declared.table.Table.{Table}
 use Rattle.event.specs.Events.{names}
-use Rattle.promises.specs.History.Words.{Arbiter, heededBy, leavingsOf, takes}
+use Rattle.event.specs.Limits.{jobs}
+use Rattle.arbiter.specs.Refusals.{cases}
+use Rattle.promises.specs.History.Words.{Arbiter, givenUpOf, heededBy, inItsWay, leavingsOf, partingBy, partingsOf, takes}
 use Rattle.arbiter.specs.Sound.{rowIn}
 
 -- job j holds the set h and asks for the set a
@@ -30,7 +32,7 @@ Has t j h a = (rowIn t j .held ≡ h) × (rowIn t j .asked ≡ a)
 pub record AskedSet (a : Arbiter) (j n x h : ℕ) (t : Table) : Type 0 where
   -- nothing of x is among h
   pub apart : meets x h ≡ false
-  -- where no earlier-opened live request declares a member of x, the whole of x is held at once
+  -- where no earlier-opened live request still declares a member of x, the whole of x is held at once
   pub at-once : blocked (t .rows) n x ≡ false → Has t j (union h x) 0
   -- while one does, the whole of x stays asked, and nothing of it is held
   pub waits : (more : List Event) → blocked (course (a .next) t more .rows) n x ≡ true → Has (course (a .next) t more) j h x
@@ -54,6 +56,19 @@ pub record Unmoved (a : Arbiter) (n : ℕ) (t : Table) (e : Event) : Type 0 wher
   pub unlisted : (i : ℕ) → live (rowIn t i) ≡ true → rowIn t i .turn .0 ≤ n → count (eqb i) (a .lists t e) ≡ 0
   pub before : (k : ℕ) → k ≤ n → ahead (a .next t e .rows) k ≡ ahead (t .rows) k
   pub way : (k x : ℕ) → k ≤ n → inWay (a .next t e .rows) k x ≡ inWay (t .rows) k x
+
+-- nothing of x is left to job j: it neither declares nor holds any of it, and whatever it asks for with some of it is refused,
+-- since 13 applies
+pub record GoneForGood (a : Arbiter) (j x : ℕ) (t : Table) : Type 0 where
+  pub declared : meets (rowIn t j .declared) x ≡ false
+  pub held : meets (rowIn t j .held) x ≡ false
+  pub not-declared : (at : Tick) (y : ℕ) → meets y x ≡ true → case 13 (cases jobs t (Ask j at y)) ≡ true
+  pub refused : (at : Tick) (y : ℕ) → meets y x ≡ true → takes a t (Ask j at y) ≡ false
+
+-- job k's request is out of the way of job j's, and none parts by its completion
+pub record HasParted (j k : ℕ) (t : Table) : Type 0 where
+  pub out : inItsWay t j (rowIn t k) ≡ false
+  pub completes : (at : Tick) → partingBy t j (Complete k at) ≡ 0
 
 -- an arbiter; a start with T tokens, R resources, a tick and a limit; any events; an opening by job j; any events since
 module _ (a : Arbiter) (T R begin limit : ℕ) (past : List Event) (j : ℕ) (tick : Tick) (s : ℕ) (later : List Event) where
@@ -95,7 +110,7 @@ module _ (a : Arbiter) (T R begin limit : ℕ) (past : List Event) (j : ℕ) (ti
     pub token-listed :
         (e : Event) → token T (now .rows) n ≡ false →
         count (eqb j) (a .lists now e) ≡ bit (token T (a .next now e .rows) n)
-    -- the sets: an accepted ask has the token, and waits just where an earlier-opened live request declares a member
+    -- the sets: an accepted ask has the token, and waits just where an earlier-opened live request still declares a member
     pub ask-has-token : (at : Tick) (x : ℕ) → takes a now (Ask j at x) ≡ true → token T (now .rows) n ≡ true
     pub ask-says :
         (at : Tick) (x : ℕ) → takes a now (Ask j at x) ≡ true →
@@ -103,14 +118,28 @@ module _ (a : Arbiter) (T R begin limit : ℕ) (past : List Event) (j : ℕ) (ti
     pub ask-granted :
         (at : Tick) (x : ℕ) → takes a now (Ask j at x) ≡ true →
         AskedSet a j n x (rowIn now j .held) (a .next now (Ask j at x))
-    -- in the way: at most T-1 once it has its token, and a later report gives that number less those of them that left
-    pub way-bounded : token T (now .rows) n ≡ true → inWay (now .rows) n s ≤ T - 1
+    -- what it still declares: what it was opened with, without what its own accepted give ups took out of it
+    pub still-declares : rowIn now j .declared ≡ without s (givenUpOf a j afterOpening later)
+    -- those in the way declare something that it still declares: at most T-1 once it has its token, and a later report gives
+    -- that number less those of them that have parted from it since
+    pub way-bounded : token T (now .rows) n ≡ true → inWay (now .rows) n (rowIn now j .declared) ≤ T - 1
     pub way-reported :
         (since : List Event) (r : Report) → a .report (course (a .next) now since) j ≡ fine r → r .turn .0 ≡ n →
-        r .«in_way» + leavingsOf a (claims n s) now since ≡ inWay (now .rows) n s
+        r .«in_way» + partingsOf a j now since ≡ inWay (now .rows) n (rowIn now j .declared)
+    -- an earlier-opened request that is not in its way never comes into it, so its completion lowers the number no further
+    pub parted-once :
+        (k : ℕ) (since : List Event) → earlier n (rowIn now k) ≡ true → inItsWay now j (rowIn now k) ≡ false →
+        rowIn (course (a .next) now since) k .turn .0 ≡ rowIn now k .turn .0 → rowIn (course (a .next) now since) j .turn .0 ≡ n →
+        HasParted j k (course (a .next) now since)
+    -- what it gives up is gone as long as it lives
+    pub given-up-for-good :
+        (at : Tick) (x : ℕ) → takes a now (GiveUp j at x) ≡ true → (since : List Event) →
+        rowIn (course (a .next) (a .next now (GiveUp j at x)) since) j .turn .0 ≡ n →
+        GoneForGood a j x (course (a .next) (a .next now (GiveUp j at x)) since)
     -- no latecomer and no refused event has any part in it
     pub token-by-earlier : token T (now .rows) n ≡ leb (p - (T - 1)) (leavingsOf a (earlier n) afterOpening later)
     pub later-unseen : (e : Event) → Beside n now e → Unmoved a n now e
     pub refused-before : course (a .next) (startTable T R begin limit) (heededBy a (startTable T R begin limit) past) ≡ before
     pub refused-since : course (a .next) afterOpening (heededBy a afterOpening later) ≡ now
     pub refused-uncounted : (f : Row → Bool) → leavingsOf a f afterOpening (heededBy a afterOpening later) ≡ leavingsOf a f afterOpening later
+    pub refused-unparted : (since : List Event) → partingsOf a j now (heededBy a now since) ≡ partingsOf a j now since

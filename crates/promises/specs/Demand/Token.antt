@@ -1,10 +1,10 @@
 -- The token of a request: it is opened with all live requests before it, and as many must complete as are too many.
-use Rattle.promises.specs.Prelude.{_&&_, _+_, _-_, _<_, Bool, List, Open, Row, Table, Tick, [], accepted, ahead, ahead-mono, ahead-set, and-left, and-true, ap, ap₂, arith, bit, blocked, cond, count, count-mono, course, earlier, either, eqb, false, getD-set-same, gone, gone-mono, gone-same, idle, jobs, le-antisymm, le-leb, leb, leb-true, length, live, lt-ltb, ltb, ltb-false, ltb-true, names, next, not, openedRow, refl, rowIn, run, subst, sym, timeAt, token, true, turn-earlier, waiting, wakes, _||_, ℕ, _∙_, _∷_, _≡_, _≤_}
+use Rattle.promises.specs.Prelude.{Bool, List, Open, Row, Table, Tick, [], _&&_, _+_, _-_, _<_, _||_, _∙_, _∷_, _≡_, _≤_, accepted, ahead, ahead-mono, ahead-set, and-left, and-true, ap, ap₂, arith, bit, blocked, cond, count, count-mono, course, earlier, either, eqb, false, getD-set-same, gone, gone-mono, gone-same, idle, jobs, le-antisymm, le-leb, leb, leb-true, length, live, lt-ltb, ltb, ltb-false, ltb-true, names, next, not, openedRow, refl, rowIn, run, subst, sym, timeAt, token, true, turn-earlier, waiting, wakes, ℕ}
 use Rattle.event.specs.declared.events.Event.{Event}
-use Rattle.promises.specs.History.Words.{leaving, leavings, lists, taken, Along, Bears, leavingsOf}
+use Rattle.promises.specs.History.Words.{leaving, leavings, lists, taken, Along, Bears, tallyOf}
 use Rattle.promises.specs.History.Events.{next-either}
-use Rattle.kept.specs.Changes.{changes, left-by, lower-ahead, opening-live}
-use Rattle.kept.specs.Words.{ends, Change, began, ended, kept, Accepts, Acts}
+use Rattle.kept.specs.Changes.{changes, left-by, lower-ahead, turn-ahead, turn-live}
+use Rattle.kept.specs.Words.{ends, Change, began, ended, gave, kept, Accepts, Acts}
 use Rattle.promises.specs.History.Count.{ahead-run, along-accepted, along-next}
 use Rattle.promises.specs.History.Row.{alive, bears-after, lives, sets-after, waiting-is}
 use Rattle.promises.specs.History.Woken.{listed-after, unnamed}
@@ -114,19 +114,20 @@ module _ {T n : ℕ} where
   all-leave t along lacks e ok =
       gone-same idle live (earlier n) (t .rows) (accepted t e .rows)
       (λ k.
-      left-by opening-live t e k (changes jobs t e ok k)
+      left-by t e k turn-live (changes jobs t e ok k)
       ∙ go k (changes jobs t e ok k)
-      ∙ sym (left-by (lower-ahead n .opening) t e k (changes jobs t e ok k)))
+      ∙ sym (left-by t e k (turn-ahead n) (changes jobs t e ok k)))
     where
       go : (k : ℕ) (c : Change t e k) → (ends c && live (rowIn t k)) ≡ (ends c && earlier n (rowIn t k))
       go k (kept _) = refl
+      go k (gave _ _ _ _) = refl
       go k (ended _ _ a _) = acts-before t along lacks k a
       go k (began _ _ _) = refl
 
   all-earlier :
       (t : Table) → Along T n t → (es : List Event) → T ≤ ahead (run t es .rows) n →
       leavings live t es ≡ leavings (earlier n) t es
-  unfolding leavingsOf course
+  unfolding tallyOf course
   all-earlier t along [] lacks = refl
   all-earlier t along (e ∷ es) lacks =
       ap₂ _+_
@@ -144,16 +145,17 @@ module _ (n : ℕ) where
   part-leaves t e ok =
       gone-mono idle (earlier n) live (t .rows) (accepted t e .rows)
       (λ k q.
-      left-by opening-live t e k (changes jobs t e ok k)
-      ∙ go k (changes jobs t e ok k) (sym (left-by (lower-ahead n .opening) t e k (changes jobs t e ok k)) ∙ q))
+      left-by t e k turn-live (changes jobs t e ok k)
+      ∙ go k (changes jobs t e ok k) (sym (left-by t e k (turn-ahead n) (changes jobs t e ok k)) ∙ q))
     where
       go : (k : ℕ) (c : Change t e k) → (ends c && earlier n (rowIn t k)) ≡ true → (ends c && live (rowIn t k)) ≡ true
       go k (kept _) q = q
+      go k (gave _ _ _ _) q = q
       go k (ended _ _ _ _) q = and-left (live (rowIn t k)) (ltb (rowIn t k .turn .0) n) q
       go k (began _ _ _) q = q
 
   some-earlier : (t : Table) (es : List Event) → leavings (earlier n) t es ≤ leavings live t es
-  unfolding leavingsOf
+  unfolding tallyOf
   some-earlier t [] = omega arith
   some-earlier t (e ∷ es) =
       let step : cond (taken t e) (leaving (earlier n) t e) 0 ≤ cond (taken t e) (leaving live t e) 0 =

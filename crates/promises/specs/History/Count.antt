@@ -1,8 +1,8 @@
 -- Counts over whole histories: as many as there were, less those that left.
-use Rattle.promises.specs.Prelude.{_+_, Bool, List, Row, Table, [], about, accepted, ahead, arith, claims, cond, count, course, earlier, false, gone, inWay, jobs, next, opens, run, true, zero-add, ℕ, _∙_, _∷_, _≡_, _≤_}
+use Rattle.promises.specs.Prelude.{Bool, List, Row, Table, [], _+_, _∙_, _∷_, _≡_, _≤_, about, accepted, ahead, arith, claims, cond, count, course, earlier, false, gone, inWay, jobs, next, opens, run, true, zero-add, ℕ}
 use Rattle.event.specs.declared.events.Event.{Event}
 use Rattle.promises.specs.History.Events.{next-either}
-use Rattle.promises.specs.History.Words.{Along, leaving, leavings, taken, leavingsOf}
+use Rattle.promises.specs.History.Words.{Along, leaving, leavings, taken, tallyOf}
 use Rattle.kept.specs.Changes.{count-accepted, length-after, lower-ahead, lower-way}
 use Rattle.kept.specs.Words.{Accepts, Lower}
 
@@ -42,7 +42,7 @@ module _ {n : ℕ} {f : Row → Bool} (low : Lower n f) where
 
   count-run :
       {T : ℕ} (t : Table) → Along T n t → (es : List Event) → leavings f t es + count f (run t es .rows) ≡ count f (t .rows)
-  unfolding leavingsOf course
+  unfolding tallyOf course
   count-run t along [] = zero-add _
   count-run t along (e ∷ es) = omega (arith, count-next t along e, count-run (next jobs t e) (along-next along e) es)
 

@@ -1,10 +1,15 @@
--- Whole histories: which events are accepted, whom they list as woken, and which requests leave in their course.
+-- Whole histories: which events are accepted, whom they list as woken, and which requests leave or part in their course.
 use Prim.Native.Nat.{ℕ, _+_, _≤_, _<_}
-use mathlib.Core.Bool.{Bool, true, false, cond}
+use mathlib.Core.Bool.{Bool, true, false, cond, not, _&&_}
 use mathlib.Core.List.{List, [], _∷_}
 use mathlib.Core.Path.{_≡_}
+use lib.Dec.{eqb}
 use Rattle.event.specs.declared.events.Event.{Event}
-use Rattle.laws.specs.Lists.{gone}
+use Rattle.event.specs.declared.events.Event.the-variants.{Ask, Beat, Complete, GiveUp, Open, Release}
+use Rattle.laws.specs.Bools.{bit}
+use Rattle.laws.specs.Lists.{count, gone}
+use Rattle.laws.specs.Sets.{meets, union, without}
+use Rattle.rows.specs.Order.{claims}
 use Rattle.laws.specs.Cases.{Outcome, refused, fine}
 use Rattle.event.specs.Limits.{jobs}
 use Rattle.rows.specs.declared.row.Row.{Row}
@@ -44,16 +49,65 @@ takes a t e = isFine (a .answer t e)
 abbrev pub leavingOf : Arbiter → (Row → Bool) → Table → Event → ℕ
 leavingOf a f t e = gone f (t .rows) (a .next t e .rows)
 
+-- the sum of a number told of each accepted event and the table that it meets, over a whole sequence of events
+unfoldable pub tallyOf : Arbiter → (Table → Event → ℕ) → Table → List Event → ℕ
+tallyOf a number t [] = 0
+tallyOf a number t (e ∷ es) = cond (takes a t e) (number t e) 0 + tallyOf a number (a .next t e) es
+
 -- how many rows pass f before an accepted event and not after it, over a whole sequence of events: `leavingsOf a live` are
 -- all accepted completions
-unfoldable pub leavingsOf : Arbiter → (Row → Bool) → Table → List Event → ℕ
-leavingsOf a f t [] = 0
-leavingsOf a f t (e ∷ es) = cond (takes a t e) (leavingOf a f t e) 0 + leavingsOf a f (a .next t e) es
+abbrev pub leavingsOf : Arbiter → (Row → Bool) → Table → List Event → ℕ
+leavingsOf a f = tallyOf a (leavingOf a f)
 
 -- the accepted ones of a sequence of events
 unfoldable pub heededBy : Arbiter → Table → List Event → List Event
 heededBy a t [] = []
 heededBy a t (e ∷ es) = cond (takes a t e) (e ∷ heededBy a (a .next t e) es) (heededBy a (a .next t e) es)
+
+-- ---- Who parts from a request, and what it still declares
+
+-- r is in the way of job j's request: an earlier-opened live row that declares something that the request still declares
+abbrev pub inItsWay : Table → ℕ → Row → Bool
+inItsWay t j r = claims (rowIn t j .turn .0) (rowIn t j .declared) r
+
+-- r is in its way, and what r has left when it gives up s shares nothing with what the request declares
+abbrev pub partsByOther : Table → ℕ → ℕ → Row → Bool
+partsByOther t j s r = inItsWay t j r && not (meets (without (r .declared) s) (rowIn t j .declared))
+
+-- r is in its way, and shares nothing with what the request has left when it gives up s itself
+abbrev pub partsByOwn : Table → ℕ → ℕ → Row → Bool
+partsByOwn t j s r = inItsWay t j r && not (meets (r .declared) (without (rowIn t j .declared) s))
+
+-- how many part from job j's request by an accepted event, told from the event and the rows before it: one in its way that
+-- completes; one in its way that gives up the last they share; and by the request's own give up, all in its way with whom it
+-- then shares nothing
+abbrev pub partingBy : Table → ℕ → Event → ℕ
+partingBy t j (Beat tick) = 0
+partingBy t j (Open k tick s) = 0
+partingBy t j (Ask k tick s) = 0
+partingBy t j (Release k tick s) = 0
+partingBy t j (Complete k tick) = bit (inItsWay t j (rowIn t k))
+partingBy t j (GiveUp k tick s) = cond (eqb k j) (count (partsByOwn t j s) (t .rows)) (bit (partsByOther t j s (rowIn t k)))
+
+-- and over a whole sequence of events
+abbrev pub partingsOf : Arbiter → ℕ → Table → List Event → ℕ
+partingsOf a j = tallyOf a (λ t. partingBy t j)
+
+-- what job j gives up by an event
+abbrev pub givenUpBy : ℕ → Event → ℕ
+givenUpBy j (Beat tick) = 0
+givenUpBy j (Open k tick s) = 0
+givenUpBy j (Ask k tick s) = 0
+givenUpBy j (Release k tick s) = 0
+givenUpBy j (Complete k tick) = 0
+givenUpBy j (GiveUp k tick s) = cond (eqb k j) s 0
+
+-- and by all accepted ones of a sequence of events
+unfoldable pub givenUpOf : Arbiter → ℕ → Table → List Event → ℕ
+givenUpOf a j t [] = 0
+givenUpOf a j t (e ∷ es) = union (cond (takes a t e) (givenUpBy j e) 0) (givenUpOf a j (a .next t e) es)
+
+-- ---- By ours
 
 -- an event is accepted by ours
 abbrev pub taken : Table → Event → Bool
@@ -66,6 +120,14 @@ leaving = leavingOf ours
 -- and over a sequence of events
 abbrev pub leavings : (Row → Bool) → Table → List Event → ℕ
 leavings = leavingsOf ours
+
+-- how many part from job j's request over a sequence of events
+abbrev pub partings : ℕ → Table → List Event → ℕ
+partings = partingsOf ours
+
+-- what job j gives up over a sequence of events
+abbrev pub givenUp : ℕ → Table → List Event → ℕ
+givenUp = givenUpOf ours
 
 -- the events that ours accepts
 abbrev pub heeded : Table → List Event → List Event
