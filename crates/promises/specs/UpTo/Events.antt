@@ -1,6 +1,6 @@
 -- What an event does to the requests of turns up to n: none of another changes anything of theirs, and whom it wakes among
 -- them is said by their rows alone.
-use Rattle.promises.specs.Prelude.{_&&_, _+_, Bool, Table, [], about, accepted, ap, arith, cond, course, earlier, earlier-turn, eqb, eqb-true, ext-getD, false, false≢true, hasJob, idle, jobOf, jobs, keep, length-map, lt-ltb, ltb-true, next, refl, rowIn, sym, true, true≢false, turn-earlier, wakes, woken, ℕ, _∙_, _∷_, _≡_}
+use Rattle.promises.specs.Prelude.{_&&_, _+_, Bool, Table, [], about, accepted, ap, arith, cond, course, earlier-turn, eqb, eqb-true, ext-getD, false, false≢true, hasJob, idle, jobOf, jobs, keep, length-map, lt-ltb, ltb-true, next, refl, rowIn, sym, true, true≢false, turn-earlier, wakes, woken, ℕ, _∙_, _∷_, _≡_}
 use Rattle.event.specs.declared.events.Event.{Event}
 use Rattle.promises.specs.Demand.Statement.{Beside}
 use Rattle.promises.specs.Demand.Others.{unmoved}
@@ -27,7 +27,8 @@ module _ {T n : ℕ} (t : Table) (along : Along T n t) (e : Event) where
       let p = earlier-turn (n + 1) (rowIn (next jobs t e) i) q in
       let k = rowIn (next jobs t e) i .turn .0 in
       let lower : Along T k t = record { wide = along .wide; tokens = along .tokens; given = omega (arith, along .given) } in
-      ap (earlier (n + 1)) (sym (back-run t lower (p .0) i (e ∷ []) refl)) ∙ q
+      let bore = back-run t lower (p .0) i (e ∷ []) refl in
+      turn-earlier (n + 1) (rowIn t i) (omega arith) (omega arith)
 
   -- an event that is none of theirs names none of them
   beside : ofThem n t e ≡ false → Beside n t e

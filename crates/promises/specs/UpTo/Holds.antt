@@ -1,5 +1,5 @@
 -- Requests of turns up to n: what they live through depends on the rows of turns up to n alone. The proof.
-use Rattle.promises.specs.Prelude.{_+_, _++_, Ask, Beat, Bool, Case, Complete, List, Open, Release, Row, Table, TurnsSpent, [], about, accepted, among, answer, ap, arith, refusalsOf, cases, cond, course, earlier-turn, false, false≢true, hasJob, jobOf, jobs, keep, lastAfter, lateIn, lateJob, length, line, listCases, moved, next, outcome, refl, releasing, rowAfter, rowIn, rowsAfter, rowsWith, run, saysDone, saysGranted, saysWait, saysWoke, set, setOf, settled, sound, sym, tickOf, timeAt, true, union, wakes, woken, ℕ, _∙_, _∷_, _≡_}
+use Rattle.promises.specs.Prelude.{_+_, _++_, Ask, Beat, Bool, Case, Complete, GiveUp, List, Open, Release, Row, Table, TurnsSpent, [], about, accepted, among, answer, ap, arith, refusalsOf, cases, cond, course, earlier-turn, false, false≢true, givingUp, hasJob, jobOf, jobs, keep, lastAfter, lateIn, lateJob, length, line, listCases, moved, next, outcome, refl, releasing, rowAfter, rowIn, rowsAfter, rowsWith, run, saysDone, saysGranted, saysWait, saysWoke, set, setOf, settled, sound, sym, tickOf, timeAt, true, union, wakes, woken, ℕ, _∙_, _∷_, _≡_}
 use Rattle.event.specs.declared.events.Event.{Event}
 use Rattle.promises.specs.History.Events.{accepts}
 use Rattle.promises.specs.History.Words.{isFine, taken, Along}
@@ -23,6 +23,16 @@ module _ {T n : ℕ} {t u : Table} (along-t : Along T n t) (along-u : Along T n 
       ap (λ (cs : List Case). cond (about e .wakes) (listCases jobs) [] ++ cs)
       (same-cases a (jobOf e) in-t sound-t sound-u (tickOf e) (setOf e) (refusalsOf (about e)) q)
 
+  -- an event that may wake others is answered by how many it woke, or by its refusal
+  answered-woken :
+      (e : Event) → isOfThem n t (jobOf e) ≡ true → among TurnsSpent (refusalsOf (about e)) ≡ false →
+      butNumber (outcome (cases jobs t e) (saysWoke (length (wakes t e))))
+      ≡ butNumber (outcome (cases jobs u e) (saysWoke (length (wakes u e))))
+  answered-woken e in-t q =
+      let more = length (wakes u e) in
+      but-number (cases jobs t e) (length (wakes t e)) more
+      ∙ (λ i. butNumber (outcome (same-event e in-t q i) (saysWoke more)))
+
   answered : (e : Event) → ofThem n t e ≡ true → butNumber (answer jobs t e) ≡ butNumber (answer jobs u e)
   unfolding answer
   answered (Beat tick) in-t = absurd (false≢true in-t)
@@ -30,10 +40,8 @@ module _ {T n : ℕ} {t u : Table} (along-t : Along T n t) (along-u : Along T n 
   answered (Ask j tick s) in-t =
       λ i. butNumber (outcome (same-event (Ask j tick s) in-t refl i) (cond (same-blocked a j in-t s i) saysWait saysGranted))
   answered (Release j tick s) in-t = λ i. butNumber (outcome (same-event (Release j tick s) in-t refl i) saysDone)
-  answered (Complete j tick) in-t =
-      let more = length (wakes u (Complete j tick)) in
-      but-number (cases jobs t (Complete j tick)) (length (wakes t (Complete j tick))) more
-      ∙ (λ i. butNumber (outcome (same-event (Complete j tick) in-t refl i) (saysWoke more)))
+  answered (Complete j tick) in-t = answered-woken (Complete j tick) in-t refl
+  answered (GiveUp j tick s) in-t = answered-woken (GiveUp j tick s) in-t refl
 
   taken-alike : (e : Event) → ofThem n t e ≡ true → taken t e ≡ taken u e
   taken-alike e in-t =
@@ -54,6 +62,7 @@ module _ {T n : ℕ} {t u : Table} (along-t : Along T n t) (along-u : Along T n 
       (record { turn = r i .turn; declared = r i .declared; held = union (r i .held) s; asked = r i .asked; since = r i .since })
   same-row-after (Release j tick s) ok in-t = ap (λ (r : Row). releasing r s) (same-row a j in-t)
   same-row-after (Complete j tick) ok in-t = refl
+  same-row-after (GiveUp j tick s) ok in-t = ap (λ (r : Row). givingUp r s) (same-row a j in-t)
 
   -- the rows that an accepted event of one of them leaves
   rows-accepted :

@@ -139,7 +139,7 @@ module _ {n : ℕ} {t u : Table} (a : Agree n t u) where
             «in_way» = way i;
           })
 
--- an answer to a completion tells the number, and a refusal
+-- where the cases are the same, answers that tell how many were woken differ in that number alone
 pub but-number : (cs : List Case) (k k′ : ℕ) → butNumber (outcome cs (saysWoke k)) ≡ butNumber (outcome cs (saysWoke k′))
 unfolding outcome
 but-number cs k k′ = go (first cs)
