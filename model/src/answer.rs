@@ -106,15 +106,17 @@ fn change(case: &Case, outcome: &mut Outcome) {
             arbiter.release(case.job, &set);
             Answer::Done
         }
-        Call::Complete => {
-            let woken = arbiter.complete(case.job);
-            put(&mut outcome.list, &woken);
-            Answer::Woke(woken.len())
-        }
+        Call::Complete => woke(arbiter.complete(case.job), &mut outcome.list),
+        Call::GiveUp => woke(arbiter.give_up(case.job, &set), &mut outcome.list),
         // A beat has done its work when the clock has moved.
         _ => Answer::Done,
     };
     outcome.table = arbiter.table();
+}
+
+fn woke(jobs: Vec<u8>, list: &mut [u8]) -> Answer {
+    put(list, &jobs);
+    Answer::Woke(jobs.len())
 }
 
 fn or_wait(at_once: bool, said: Answer) -> Answer {
@@ -164,6 +166,7 @@ fn recorded(case: &Case) -> Record {
         Call::WriteAsk => event(Call::Ask, job, case.set),
         Call::WriteRelease => event(Call::Release, job, case.set),
         Call::WriteComplete => event(Call::Complete, job, 0),
+        Call::WriteGiveUp => event(Call::GiveUp, job, case.set),
         _ => Record::Start {
             tokens: case.table.tokens,
             resources: case.table.resources,

@@ -92,7 +92,7 @@ impl Arbiter {
         &self.line[..place]
     }
 
-    /// How many requests ahead of this turn have declared a member of the set.
+    /// How many requests ahead of this turn still declare a member of the set.
     pub fn in_the_way(&self, turn: u64, set: &Set) -> usize {
         let ahead = self.ahead(turn).iter();
         ahead.filter(|r| !r.declared.is_disjoint(set)).count()
@@ -150,11 +150,25 @@ impl Arbiter {
         request.held = &request.held - set;
     }
 
-    /// The jobs woken, in line. A job is woken if it waited and waits no more;
-    /// the token freed needs no handing over, since places in line decide it.
+    /// The jobs woken, in line. The token freed needs no handing over, since places in
+    /// line decide it.
     pub fn complete(&mut self, job: u32) -> Vec<u8> {
+        self.woken_by(|arbiter| arbiter.line.retain(|r| u32::from(r.job) != job))
+    }
+
+    /// The jobs woken, in line.
+    pub fn give_up(&mut self, job: u32, set: &Set) -> Vec<u8> {
+        let let_go = |request: &mut Request| {
+            request.declared.retain(|member| !set.contains(member));
+            request.held.retain(|member| !set.contains(member));
+        };
+        self.woken_by(|arbiter| let_go(arbiter.request_mut(job)))
+    }
+
+    /// A job is woken by a change if it waited and waits no more.
+    fn woken_by(&mut self, change: impl FnOnce(&mut Arbiter)) -> Vec<u8> {
         let waited: BTreeSet<u8> = self.waiting().map(|r| r.job).collect();
-        self.line.retain(|r| u32::from(r.job) != job);
+        change(self);
         self.grant_all_allowed();
         let waits: BTreeSet<u8> = self.waiting().map(|r| r.job).collect();
         let mut woken = Vec::new();

@@ -31,10 +31,12 @@ pub enum Call {
     WriteRelease,
     WriteComplete,
     WriteStart,
+    GiveUp,
+    WriteGiveUp,
 }
 
 /// Every call, at the place that is its number.
-pub const CALLS: [Call; 14] = [
+pub const CALLS: [Call; 16] = [
     Call::Beat,
     Call::Open,
     Call::Ask,
@@ -49,15 +51,41 @@ pub const CALLS: [Call; 14] = [
     Call::WriteRelease,
     Call::WriteComplete,
     Call::WriteStart,
+    Call::GiveUp,
+    Call::WriteGiveUp,
+];
+
+/// The calls that change a table. Each has a record.
+pub const EVENTS: [Call; 6] = [
+    Call::Beat,
+    Call::Open,
+    Call::Ask,
+    Call::Release,
+    Call::Complete,
+    Call::GiveUp,
 ];
 
 impl Call {
     pub fn writes(self) -> bool {
-        self as u8 >= Call::WriteBeat as u8
+        matches!(
+            self,
+            Call::WriteBeat
+                | Call::WriteOpen
+                | Call::WriteAsk
+                | Call::WriteRelease
+                | Call::WriteComplete
+                | Call::WriteStart
+                | Call::WriteGiveUp
+        )
+    }
+
+    /// A start makes its own, and what is written is no part of one.
+    pub fn has_table(self) -> bool {
+        self != Call::Start && !self.writes()
     }
 
     pub fn has_list(self) -> bool {
-        self.writes() || matches!(self, Call::Complete | Call::Overdue)
+        self.writes() || matches!(self, Call::Complete | Call::GiveUp | Call::Overdue)
     }
 
     /// The call that writes the record of this one. A question has no record.
@@ -68,6 +96,7 @@ impl Call {
             Call::Ask => Some(Call::WriteAsk),
             Call::Release => Some(Call::WriteRelease),
             Call::Complete => Some(Call::WriteComplete),
+            Call::GiveUp => Some(Call::WriteGiveUp),
             Call::Start => Some(Call::WriteStart),
             _ => None,
         }
@@ -91,6 +120,8 @@ impl fmt::Display for Call {
             Call::WriteRelease => "write-release",
             Call::WriteComplete => "write-complete",
             Call::WriteStart => "write-start",
+            Call::GiveUp => "give-up",
+            Call::WriteGiveUp => "write-give-up",
         })
     }
 }

@@ -150,7 +150,7 @@ fn spoil(random: &mut Random, mut case: Vec<u8>) -> Vec<u8> {
         return case;
     }
     let good = case.clone();
-    case[0] = random.pick(&[14, 15, 128, 255]);
+    case[0] = random.pick(&[CALLS.len() as u8, 17, 128, 255]);
     case.extend(good);
     case
 }
@@ -182,11 +182,10 @@ fn table(random: &mut Random, plan: &Plan, walk: &mut Walk) -> Table {
 
 fn case(random: &mut Random, plan: &Plan, walk: &mut Walk) -> Case {
     let table = table(random, plan, walk);
-    let call = if chance(random, plan.no_table) {
-        random.pick(&CALLS[7..])
-    } else {
-        random.pick(&CALLS[..7])
-    };
+    let no_table = chance(random, plan.no_table);
+    let calls = CALLS.iter().copied();
+    let calls: Vec<Call> = calls.filter(|call| call.has_table() != no_table).collect();
+    let call = random.pick(&calls);
     let arbiter = Arbiter::of(&table);
     let job = job(random, &arbiter, call);
     let odd = chance(random, plan.odd_set);
@@ -261,6 +260,7 @@ fn fitting_set(random: &mut Random, arbiter: &Arbiter, job: u32, call: Call) -> 
     let whole = match (call, arbiter.request(job)) {
         (Call::Ask, Some(request)) => &request.declared - &request.held,
         (Call::Release, Some(request)) => request.held.clone(),
+        (Call::GiveUp, Some(request)) => request.declared.clone(),
         _ => (0..arbiter.resources.min(64)).collect(),
     };
     random.part(&whole)

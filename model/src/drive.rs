@@ -1,7 +1,7 @@
 //! Draws events that a table is likely to accept, with a wild one now and then.
 
 use crate::arbiter::{Arbiter, Request};
-use crate::case::{Call, CALLS};
+use crate::case::{Call, EVENTS};
 use crate::clock;
 use crate::random::Random;
 use crate::record::Record;
@@ -36,7 +36,7 @@ pub fn event(random: &mut Random, table: &Table, style: &Style) -> Record {
 }
 
 fn wild(random: &mut Random, style: &Style) -> (Call, u8, u64) {
-    let call = random.pick(&CALLS[..5]);
+    let call = random.pick(&EVENTS);
     let job = random.below(style.jobs) as u8;
     let bit = 1_u64 << random.below(64);
     let near = random.below(8);

@@ -3,7 +3,7 @@
 //! ```text
 //! start T R TICK LIMIT
 //! beat TICK
-//! open JOB TICK SET            (ask and release alike)
+//! open JOB TICK SET            (ask, release and giveup alike)
 //! complete JOB TICK
 //! bytes 22 80 ff               as they are, in hex: a damaged record or part of one
 //! report JOB
@@ -130,6 +130,7 @@ pub fn call(words: &[&str]) -> Option<Case> {
         ["open", job, tick, set] => case(Call::Open, job, tick, set, none),
         ["ask", job, tick, set] => case(Call::Ask, job, tick, set, none),
         ["release", job, tick, set] => case(Call::Release, job, tick, set, none),
+        ["giveup", job, tick, set] => case(Call::GiveUp, job, tick, set, none),
         ["complete", job, tick] => case(Call::Complete, job, tick, "0", none),
         ["report", job] => case(Call::Report, job, "0", "0", none),
         ["overdue", tick] => case(Call::Overdue, "0", tick, "0", none),

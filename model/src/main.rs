@@ -43,6 +43,8 @@ mod file_tally;
 mod file_traps;
 mod files;
 mod flips;
+#[cfg(test)]
+mod give_up_sessions;
 mod layout;
 mod lines;
 mod probe;

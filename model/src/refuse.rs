@@ -2,7 +2,7 @@
 //! that apply together can be counted; the lowest is the one given.
 //!
 //! A job without a live request, one above 63 too, counts as one that has no
-//! token and has declared, held and asked nothing.
+//! token and declares, holds and asks nothing.
 
 use crate::arbiter::Arbiter;
 use crate::case::{Call, Case};
@@ -20,12 +20,17 @@ pub fn listed(call: Call) -> &'static [u8] {
         Call::Ask => &[3, 4, 5, 6, 8, 9, 10, 11, 12, 13, 14],
         Call::Release => &[3, 4, 5, 6, 8, 9, 10, 11, 12, 15],
         Call::Complete => &[2, 3, 4, 5, 6, 8, 9, 10],
+        Call::GiveUp => &[2, 3, 4, 5, 6, 8, 9, 10, 11, 12, 13],
         Call::Report => &[3, 4, 8],
         Call::Overdue => &[2, 3, 5, 6],
         Call::Start => &[1],
         // A beat names no job, so there is none to refuse.
         Call::WriteBeat => &[17],
-        Call::WriteOpen | Call::WriteAsk | Call::WriteRelease | Call::WriteComplete => &[4, 17],
+        Call::WriteOpen
+        | Call::WriteAsk
+        | Call::WriteRelease
+        | Call::WriteComplete
+        | Call::WriteGiveUp => &[4, 17],
         Call::WriteStart => &[1, 17],
     }
 }

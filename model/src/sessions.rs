@@ -17,17 +17,17 @@ use crate::table::Table;
 use crate::tables;
 
 /// A table on its way through calls, which are answered as the probe prints it.
-struct Session(Table);
+pub struct Session(pub Table);
 
 impl Session {
-    fn start(tokens: u8, resources: u8, tick: u32, limit: u32) -> Session {
+    pub fn start(tokens: u8, resources: u8, tick: u32, limit: u32) -> Session {
         let table = Table::empty(tokens, resources, limit, 0);
         let mut session = Session(table);
         assert_eq!(session.call(Call::Start, 0, tick, &[]), "done");
         session
     }
 
-    fn outcome(&mut self, call: Call, job: u32, tick: u32, set: &[u8]) -> Outcome {
+    pub fn outcome(&mut self, call: Call, job: u32, tick: u32, set: &[u8]) -> Outcome {
         let set: Set = set.iter().copied().collect();
         let outcome = answer(&Case {
             call,
@@ -41,15 +41,15 @@ impl Session {
         outcome
     }
 
-    fn call(&mut self, call: Call, job: u32, tick: u32, set: &[u8]) -> String {
+    pub fn call(&mut self, call: Call, job: u32, tick: u32, set: &[u8]) -> String {
         self.outcome(call, job, tick, set).answer.to_string()
     }
 
-    fn open(&mut self, job: u32, tick: u32, set: &[u8]) -> String {
+    pub fn open(&mut self, job: u32, tick: u32, set: &[u8]) -> String {
         self.call(Call::Open, job, tick, set)
     }
 
-    fn ask(&mut self, job: u32, tick: u32, set: &[u8]) -> String {
+    pub fn ask(&mut self, job: u32, tick: u32, set: &[u8]) -> String {
         self.call(Call::Ask, job, tick, set)
     }
 
@@ -57,16 +57,20 @@ impl Session {
         self.call(Call::Beat, 0, tick, &[])
     }
 
-    /// The jobs that a complete or a question about limits lists.
+    /// The jobs that a call lists which has no set.
     fn listed(&mut self, call: Call, job: u32, tick: u32) -> Vec<u8> {
-        let outcome = self.outcome(call, job, tick, &[]);
+        self.listed_with(call, job, tick, &[])
+    }
+
+    pub fn listed_with(&mut self, call: Call, job: u32, tick: u32, set: &[u8]) -> Vec<u8> {
+        let outcome = self.outcome(call, job, tick, set);
         match outcome.answer {
             Answer::Woke(count) | Answer::Overdue(count) => outcome.list[..count].to_vec(),
             other => panic!("{other}"),
         }
     }
 
-    fn report(&mut self, job: u32) -> Report {
+    pub fn report(&mut self, job: u32) -> Report {
         match self.outcome(Call::Report, job, 0, &[]).answer {
             Answer::Report(report) => report,
             other => panic!("{other}"),
@@ -262,8 +266,12 @@ fn every_bit_that_must_be_0_is_looked_at() {
     let none = 112..112;
     let gaps = [
         (event(Call::Beat, 0, u32::MAX, 0), [3..16, 48..112]),
-        (event(Call::Open, 63, u32::MAX, u64::MAX), [9..16, none]),
+        (
+            event(Call::Open, 63, u32::MAX, u64::MAX),
+            [9..16, none.clone()],
+        ),
         (event(Call::Complete, 63, u32::MAX, 0), [9..16, 48..112]),
+        (event(Call::GiveUp, 63, u32::MAX, u64::MAX), [9..16, none]),
         (start(u32::MAX, u32::MAX), [15..16, 80..112]),
     ];
     for (record, gaps) in gaps {

@@ -24,7 +24,9 @@ const OF_REQUEST: [RequestClause; 13] = [
     ("turn-its-own", |a, r| {
         a.line.iter().filter(|other| other.turn == r.turn).count() == 1
     }),
-    ("declares-something", |_, r| !r.declared.is_empty()),
+    ("declares-nothing-only-with-token", |a, r| {
+        a.has_token(r.turn) || !r.declared.is_empty()
+    }),
     ("declared-within-range", |a, r| {
         r.declared.iter().all(|&member| member < a.resources)
     }),

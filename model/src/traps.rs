@@ -3,7 +3,7 @@
 
 use crate::answer::{Answer, Outcome};
 use crate::arbiter::{Arbiter, Request};
-use crate::case::{Call, Case};
+use crate::case::{Call, Case, EVENTS};
 use crate::clock;
 use crate::set::{from_number, Set};
 
@@ -39,7 +39,7 @@ pub fn in_case(case: &Case, outcome: &Outcome) -> Vec<String> {
         Answer::Overdue(_) => overdue(case, &before),
         _ => Vec::new(),
     };
-    let ticks = (call as u8) <= Call::Complete as u8 || call == Call::Overdue;
+    let ticks = EVENTS.contains(&call) || call == Call::Overdue;
     if ticks && case.tick < clock::tick_after(case.table.time, 0) {
         traps.push(format!("{call} over the wrap"));
     }
@@ -49,8 +49,7 @@ pub fn in_case(case: &Case, outcome: &Outcome) -> Vec<String> {
 /// The clock must not move, and could have: 5 and 6 are not the reason.
 fn refused(case: &Case, number: u8) -> Vec<String> {
     let later = clock::forward(case.table.time, case.tick) > 0;
-    let moves = (Call::Open as u8..=Call::Complete as u8).contains(&(case.call as u8));
-    if moves && later && (7..=16).contains(&number) {
+    if EVENTS.contains(&case.call) && later && (7..=16).contains(&number) {
         return vec![format!("{} refused with a later tick", case.call)];
     }
     Vec::new()
