@@ -83,7 +83,10 @@ pub fn answer(case: &Case) -> Outcome {
         return outcome;
     }
     match case.call {
-        Call::Report => outcome.answer = Answer::Report(report(case)),
+        Call::Report => {
+            let arbiter = Arbiter::of(&case.table);
+            outcome.answer = Answer::Report(report(&arbiter, case.job));
+        }
         Call::Overdue => overdue(case, &mut outcome),
         Call::Start => outcome.table = start(case),
         call if call.writes() => {
@@ -127,9 +130,8 @@ fn or_wait(at_once: bool, said: Answer) -> Answer {
     }
 }
 
-fn report(case: &Case) -> Report {
-    let arbiter = Arbiter::of(&case.table);
-    let request = arbiter.request(case.job).expect("refusal 8 comes first");
+pub fn report(arbiter: &Arbiter, job: u32) -> Report {
+    let request = arbiter.request(job).expect("refusal 8 comes first");
     Report {
         turn: request.turn,
         token: arbiter.has_token(request.turn),

@@ -210,19 +210,28 @@ fn case(random: &mut Random, plan: &Plan, walk: &mut Walk) -> Case {
 fn job(random: &mut Random, arbiter: &Arbiter, call: Call) -> u32 {
     let jobs = JOBS as u32;
     let any = random.below(JOBS as u64) as u32;
-    let state: fn(&Arbiter, &Request) -> bool = match random.below(9) {
+    let state: fn(&Arbiter, &Request) -> bool = match random.below(12) {
         0 => return any,
         1 => return random.pick(&[jobs, 255, u32::MAX, any + jobs, any + 256, any + (1 << 31)]),
         2..=4 if call == Call::Open => return idle(random, arbiter),
+        5..=7 if call == Call::GiveUp => |a, r| !a.waits(r) && !asked_behind(a, r).is_empty(),
         2 => |a, r| !a.has_token(r.turn),
-        3 => |_, r| !r.asked.is_empty(),
-        4 => |_, r| !r.held.is_empty(),
-        5 => |_, r| !r.asked.is_empty() && !r.held.is_empty(),
+        3..=4 => |_, r| !r.asked.is_empty(),
+        5 => |_, r| !r.held.is_empty(),
+        6..=7 => |_, r| !r.asked.is_empty() && !r.held.is_empty(),
+        8 => |_, r| r.declared.is_empty(),
         _ => |a, r| !a.waits(r),
     };
     let jobs = arbiter.line.iter().filter(|r| state(arbiter, r));
     let jobs: Set = jobs.map(|r| r.job).collect();
     random.member(&jobs).map_or(any, u32::from)
+}
+
+/// What it declares and others behind it ask for.
+fn asked_behind(arbiter: &Arbiter, request: &Request) -> Set {
+    let behind = arbiter.line.iter().filter(|r| r.turn > request.turn);
+    let asked: Set = behind.flat_map(|r| r.asked.clone()).collect();
+    &request.declared & &asked
 }
 
 fn idle(random: &mut Random, arbiter: &Arbiter) -> u32 {
@@ -231,17 +240,19 @@ fn idle(random: &mut Random, arbiter: &Arbiter) -> u32 {
     random.member(&idle).map_or(0, u32::from)
 }
 
-/// Small steps, the edges of the clock, of its end and of somebody's limit, or any.
+/// Small steps, the edges of the clock, of its wrap, of its end and of somebody's limit,
+/// or any.
 fn tick(random: &mut Random, arbiter: &Arbiter) -> u32 {
     let time = arbiter.time;
     let any = random.number();
     let edge = 1 << 31;
     let end = TOP.wrapping_sub(time);
-    let step = match random.below(8) {
+    let step = match random.below(9) {
         0 => random.pick(&[edge - 1, edge, edge + 1, 2 * edge - 1, any]),
         1 => random.pick(&[end, end.wrapping_add(1), end.wrapping_sub(1)]),
         2 => time_up(random, arbiter).wrapping_sub(time),
         3 => time_up(random, arbiter).wrapping_sub(time).wrapping_sub(1),
+        4 => (2 * edge).wrapping_sub(time) % (2 * edge),
         _ => random.pick(&[0, 1, 2, 1000]),
     };
     clock::tick_after(time, step)
@@ -260,6 +271,7 @@ fn fitting_set(random: &mut Random, arbiter: &Arbiter, job: u32, call: Call) -> 
     let whole = match (call, arbiter.request(job)) {
         (Call::Ask, Some(request)) => &request.declared - &request.held,
         (Call::Release, Some(request)) => request.held.clone(),
+        (Call::GiveUp, Some(request)) if random.one_in(2) => return asked_behind(arbiter, request),
         (Call::GiveUp, Some(request)) => request.declared.clone(),
         _ => (0..arbiter.resources.min(64)).collect(),
     };

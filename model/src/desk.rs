@@ -26,8 +26,8 @@ pub fn show(file: &[u8], mut out: impl Write) -> io::Result<()> {
 /// The file of the table that a recording leaves, or the refusal of its first record.
 pub fn file_of_recording(recording: impl Read) -> io::Result<Result<Vec<u8>, u8>> {
     let mut first = None;
-    let table = walk(recording, |_, _, said| {
-        first.get_or_insert(said.clone());
+    let table = walk(recording, |step| {
+        first.get_or_insert(step.said.clone());
         Ok(())
     })?;
     Ok(match first {

@@ -71,9 +71,10 @@ fn declaration(random: &mut Random, arbiter: &Arbiter) -> Set {
 /// What a request that doesn't wait may do next.
 fn step_on(random: &mut Random, request: &Request) -> (Call, u8, u64) {
     let free = &request.declared - &request.held;
-    let (call, set) = match random.below(8) {
+    let (call, set) = match random.below(10) {
         0..=3 if !free.is_empty() => (Call::Ask, random.part(&free)),
         4 if !request.held.is_empty() => (Call::Release, random.part(&request.held)),
+        5..=6 if !request.declared.is_empty() => (Call::GiveUp, random.part(&request.declared)),
         _ => (Call::Complete, Set::new()),
     };
     (call, request.job, to_number(&set))

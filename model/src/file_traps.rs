@@ -40,14 +40,18 @@ const ROOMS: [&str; files::ROOMS as usize] = [
 ];
 
 /// Numbers at their ends, in a table that was loaded.
-const ENDS: [&str; 6] = [
+const ENDS: [&str; 7] = [
     "limit 1",
     "limit highest",
     "time highest",
     "last turn highest",
     "turn highest",
     "since highest",
+    DECLARES_NOTHING,
 ];
+
+/// In a live row, which must have its token then.
+const DECLARES_NOTHING: &str = "declared set empty";
 
 /// All that the makers step through, so that it is met in any row that is long enough.
 pub fn stepped() -> Vec<String> {
@@ -74,7 +78,9 @@ pub fn stepped() -> Vec<String> {
 
 /// What is left to chance.
 pub fn drawn() -> Vec<String> {
-    ENDS.map(|end| format!("loaded {end}")).into()
+    let mut names: Vec<String> = ENDS.map(|end| format!("loaded {end}")).into();
+    names.push(format!("saved {DECLARES_NOTHING}"));
+    names
 }
 
 fn with_length(what: &str, number: u64, its: bool) -> String {
@@ -190,10 +196,16 @@ pub fn of_loaded(table: &Table) -> Vec<String> {
         table.last_turn == TOP,
         table.rows.iter().any(|row| row.turn == TOP),
         table.rows.iter().any(|row| row.since == TOP),
+        declares_nothing(table),
     ];
     let ends = ENDS.iter().zip(holds).filter(|(_, holds)| *holds);
     met.extend(ends.map(|(end, _)| format!("loaded {end}")));
     met
+}
+
+fn declares_nothing(table: &Table) -> bool {
+    let mut live = table.rows.iter().filter(|row| row.turn != 0);
+    live.any(|row| row.declared == 0)
 }
 
 /// What a table is to the room that it is saved in.
@@ -204,6 +216,8 @@ pub fn of_save(room: u16, table: &Table) -> Vec<String> {
     let mut met: Vec<String> = rooms.map(|(name, _)| for_table(name, sound)).collect();
     if sound && usize::from(room) >= length(table) {
         met.push(saved_rows((length(table) - HEAD) / ROW));
+        let empty = declares_nothing(table).then(|| format!("saved {DECLARES_NOTHING}"));
+        met.extend(empty);
     }
     met
 }

@@ -3,9 +3,12 @@
 use crate::answer::answer;
 use crate::case::{Call, Case};
 use crate::clock::TOP;
+use crate::history::{History, HAPPENINGS};
 use crate::lines;
 use crate::record::{self, Record};
-use crate::replay::{Replay, Said};
+use crate::recording_tally::of_recordings;
+use crate::recordings;
+use crate::replay::{walk, Replay, Said};
 use crate::sessions::Session;
 use crate::set::{from_number, to_number};
 use crate::sound::{broken, is_sound};
@@ -235,4 +238,76 @@ fn a_replay_lists_whom_a_give_up_wakes() {
     let said: Vec<Said> = records.map(|bytes| replay.step(bytes)).collect();
     let last = [Said::Ok(Vec::new()), Said::Ok(vec![2])];
     assert_eq!(said[4..], last);
+}
+
+/// What happens along the lines, at which the history must fit the tables.
+fn happenings(text: &str) -> Vec<&'static str> {
+    let recording = lines::recording(text).expect("good lines");
+    let mut history = History::default();
+    let mut happened = Vec::new();
+    let walked = walk(recording.as_slice(), |step| {
+        let record = record::read(step.bytes).expect("lines are good records");
+        happened.extend(history.take(&record));
+        history.compare(step.table.expect("the first line is a start"));
+        Ok(())
+    });
+    walked.expect("memory can be read");
+    happened
+}
+
+/// Job 1 parts from 3, then from 2 and 4; 4 parts from 2; 2 from 3, and 3 from 4.
+#[test]
+fn partings_are_told_by_name() {
+    let [completed, gave_up, own, behind_give_up, behind_own, emptied] = HAPPENINGS;
+    let text = "start 4 3 0 1\nopen 1 0 3\nopen 2 0 6\nopen 3 0 5\nopen 4 0 7\n\
+                giveup 1 0 1\ngiveup 1 0 2\ngiveup 4 0 4\ngiveup 4 0 2\n\
+                complete 2 0\ncomplete 1 0\ncomplete 3 0\n";
+    let expected = [
+        &[gave_up][..],
+        &[gave_up, gave_up, emptied],
+        &[own],
+        &[completed, behind_own],
+        &[behind_give_up, behind_give_up],
+        &[completed],
+    ];
+    assert_eq!(happenings(text), expected.concat());
+}
+
+/// Job 3 has its token only when 2 has given up what they shared. It finds 1 in its way,
+/// and is then in the way of another request of job 1.
+#[test]
+fn partings_are_of_requests_with_their_tokens() {
+    let [completed, _, own, _, _, emptied] = HAPPENINGS;
+    let text = "start 2 2 0 1\nopen 1 0 3\nopen 2 0 1\nopen 3 0 1\n\
+                giveup 2 0 1\ncomplete 2 0\ncomplete 1 0\nopen 1 0 1\ncomplete 3 0\n";
+    assert_eq!(happenings(text), [emptied, own, completed, completed]);
+}
+
+/// Every number along the way is compared.
+#[test]
+fn reports_tell_the_number_at_the_token_less_the_partings() {
+    let kinds = ["lively", "crowd", "few", "corner"];
+    let recordings = kinds.map(|kind| recordings::make(kind, 2, 200).expect("there is such"));
+    let mut told = Vec::new();
+    of_recordings(&recordings, &mut told).expect("memory takes all");
+    let told = String::from_utf8(told).expect("text");
+    for happening in HAPPENINGS {
+        assert!(!told.contains(&format!("missing {happening}")), "{told}");
+    }
+}
+
+#[test]
+#[should_panic(expected = "job 2")]
+fn a_number_that_the_history_does_not_give_is_found() {
+    let text = "start 2 1 0 1\nopen 1 0 1\nopen 2 0 1\n";
+    let recording = lines::recording(text).expect("good lines");
+    let mut history = History::default();
+    for bytes in recording.chunks(record::LENGTH) {
+        history.take(&record::read(bytes).expect("good records"));
+    }
+    let mut session = Session::start(2, 1, 0, 1);
+    session.open(1, 0, &[0]);
+    session.open(2, 0, &[0]);
+    session.give_up(1, &[0]);
+    history.compare(&session.0);
 }

@@ -45,11 +45,13 @@ mod files;
 mod flips;
 #[cfg(test)]
 mod give_up_sessions;
+mod history;
 mod layout;
 mod lines;
 mod probe;
 mod random;
 mod record;
+mod recording_tally;
 mod recordings;
 mod refuse;
 mod replay;
@@ -110,7 +112,7 @@ fn run(arguments: &[&str]) -> io::Result<bool> {
         ["case-size"] => put_out([format!("{}\n", case::CASE).into()], out),
         ["block-size"] => put_out([format!("{}\n", recordings::BLOCK).into()], out),
         ["tally", ref files @ ..] => tally::of_cases(&read(files)?, out),
-        ["tally-recordings", ref files @ ..] => tally::of_recordings(&read(files)?, out),
+        ["tally-recordings", ref files @ ..] => recording_tally::of_recordings(&read(files)?, out),
         _ => run_service(arguments, input, out),
     }
 }

@@ -127,8 +127,8 @@ fn good_start(random: &mut Random, plan: &Plan, count: u64) -> Vec<u8> {
             damage(random, &mut record);
         }
         if replay.table.is_some() && !random.one_in(plan.readable) {
-            // Kind 6 or 7.
-            record[0] |= 192;
+            // Kind 7.
+            record[0] |= 224;
         }
         // Following what is really written keeps later events sensible.
         replay.step(&record);

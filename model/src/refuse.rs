@@ -47,7 +47,7 @@ fn applies(number: u8, case: &Case, arbiter: &Arbiter) -> bool {
     match number {
         1 => start_out_of_range(case),
         2 => usize::from(case.room) < JOBS,
-        3 => !sound::is_sound(table),
+        3 => !sound::is_sound_in(table, arbiter),
         4 => case.job >= JOBS as u32,
         5 => clock::gone_back(table.time, case.tick),
         6 => clock::passes_top(table.time, case.tick),

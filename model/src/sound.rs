@@ -59,15 +59,26 @@ pub fn clauses() -> impl Iterator<Item = &'static str> {
 
 /// The names of the clauses that this table breaks.
 pub fn broken(table: &Table) -> Vec<&'static str> {
-    let arbiter = Arbiter::of(table);
-    let of_table = OF_TABLE.iter().filter(|(_, holds)| !holds(table));
-    let of_request = OF_REQUEST
-        .iter()
-        .filter(|(_, holds)| !arbiter.line.iter().all(|r| holds(&arbiter, r)));
-    let of_table = of_table.map(|(name, _)| *name);
-    of_table.chain(of_request.map(|(name, _)| *name)).collect()
+    broken_in(table, &Arbiter::of(table)).collect()
 }
 
 pub fn is_sound(table: &Table) -> bool {
-    broken(table).is_empty()
+    is_sound_in(table, &Arbiter::of(table))
+}
+
+/// With the table's own arbiter at hand.
+pub fn is_sound_in(table: &Table, arbiter: &Arbiter) -> bool {
+    broken_in(table, arbiter).next().is_none()
+}
+
+fn broken_in<'a>(
+    table: &'a Table,
+    arbiter: &'a Arbiter,
+) -> impl Iterator<Item = &'static str> + 'a {
+    let of_table = OF_TABLE.iter().filter(|(_, holds)| !holds(table));
+    let of_request = OF_REQUEST
+        .iter()
+        .filter(|(_, holds)| !arbiter.line.iter().all(|r| holds(arbiter, r)));
+    let of_table = of_table.map(|(name, _)| *name);
+    of_table.chain(of_request.map(|(name, _)| *name))
 }

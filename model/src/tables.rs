@@ -87,20 +87,34 @@ fn filled(random: &mut Random, mut table: Table, requests: u64) -> Table {
     let gap = random.pick(&[1, 3, 1 << 40]);
     let mut idle: Set = (0..JOBS as u8).collect();
     let mut declared_ahead = Set::new();
+    let behind_one = random.one_in(4);
     for place in 0..requests {
         let job = random.member(&idle).expect("no more requests than jobs");
         idle.remove(&job);
         table.last_turn += 1 + random.below(gap);
         let token = place < u64::from(table.tokens);
-        table.rows[usize::from(job)] = request(random, &table, token, &mut declared_ahead);
+        let all: Set = (0..table.resources).collect();
+        let declared = match place {
+            0 if behind_one => all,
+            _ if behind_one => random.member(&all).into_iter().collect(),
+            _ if token && random.one_in(8) => Set::new(),
+            _ => random.part(&all),
+        };
+        table.rows[usize::from(job)] =
+            request(random, &table, token, declared, &mut declared_ahead);
     }
     table.last_turn += random.pick(&[0, 0, 1, 7]);
     table
 }
 
 /// The row of the next request in line.
-fn request(random: &mut Random, table: &Table, token: bool, declared_ahead: &mut Set) -> Row {
-    let declared = random.part(&(0..table.resources).collect());
+fn request(
+    random: &mut Random,
+    table: &Table,
+    token: bool,
+    declared: Set,
+    declared_ahead: &mut Set,
+) -> Row {
     let mut held = Set::new();
     let mut asked = Set::new();
     if token && random.one_in(2) {

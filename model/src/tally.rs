@@ -1,13 +1,12 @@
-//! Counts what cases and recordings reach, and names what they never do.
+//! Counts what cases reach, and names what they never do.
 
 use crate::answer::{answer, Answer};
 use crate::case::{Call, Case, CALLS};
 use crate::cases;
 use crate::probe::{next_case, Next};
-use crate::record::{self, Record};
 use crate::refuse;
-use crate::replay::{walk, Said};
 use crate::sound;
+use crate::table::Table;
 use crate::traps;
 use std::collections::BTreeMap;
 use std::io::{self, Write};
@@ -51,7 +50,7 @@ impl Tally {
     }
 }
 
-fn amount(count: usize) -> &'static str {
+pub fn amount(count: usize) -> &'static str {
     match count {
         0 => "0",
         1 => "1",
@@ -61,7 +60,7 @@ fn amount(count: usize) -> &'static str {
 
 /// Every answer that is no refusal. A report shows token, waiting and the number
 /// in the way.
-const ANSWERS: [&str; 27] = [
+const ANSWERS: [&str; 31] = [
     "beat done",
     "open token",
     "open wait",
@@ -71,6 +70,9 @@ const ANSWERS: [&str; 27] = [
     "complete woke 0",
     "complete woke 1",
     "complete woke more",
+    "give-up woke 0",
+    "give-up woke 1",
+    "give-up woke more",
     "report 1 0 0",
     "report 1 0 1",
     "report 1 0 more",
@@ -89,6 +91,7 @@ const ANSWERS: [&str; 27] = [
     "write-release wrote",
     "write-complete wrote",
     "write-start wrote",
+    "write-give-up wrote",
 ];
 
 fn name(call: Call, answer: &Answer) -> String {
@@ -160,10 +163,17 @@ fn met_by_refusal(case: &Case, given: u8) -> Vec<String> {
     let others = refuse::applying(case).skip(1);
     let mut met = vec![format!("refusal {call} {given}")];
     met.extend(others.map(|other| format!("together {call} {given} {other}")));
-    if let (3, [clause]) = (given, sound::broken(&case.table).as_slice()) {
-        met.push(format!("only broken {clause}"));
+    if given == 3 {
+        met.extend(only_broken(&case.table));
     }
     met
+}
+
+fn only_broken(table: &Table) -> Option<String> {
+    match sound::broken(table)[..] {
+        [clause] => Some(format!("only broken {clause}")),
+        _ => None,
+    }
 }
 
 /// Counts rows of cases: answers, refusals, those that apply together with the
@@ -206,82 +216,4 @@ pub fn each(seed: u64, count: u64) -> impl Iterator<Item = Vec<u8>> {
             return Some(case.to_bytes());
         }
     })
-}
-
-/// Refusals that no recording of a handy length can bring about: its jobs fit 6
-/// bits, the replay lends a long list, its tables are sound, and the end of time
-/// and of turns is too many records away.
-const NOT_IN_REPLAY: [u8; 5] = [2, 3, 4, 6, 16];
-
-fn expected_of_recordings() -> Vec<String> {
-    let answers = [
-        "first ok",
-        "beat ok",
-        "open ok",
-        "open wait",
-        "ask ok",
-        "ask wait",
-        "release ok",
-        "complete ok 0",
-        "complete ok 1",
-        "complete ok more",
-        "start no 20",
-    ];
-    let mut expected: Vec<String> = answers.map(String::from).into();
-    expected.extend([1, 17, 18, 19, 20].map(|number| format!("first no {number}")));
-    expected.extend([17, 18, 19].map(|number| format!("unreadable no {number}")));
-    let pairs = ["first 19 20", "first 19 1", "later 19 20", "later 20 1"];
-    expected.extend(pairs.map(|pair| format!("together {pair}")));
-    for call in &CALLS[..5] {
-        let listed = refuse::listed(*call).iter();
-        let met = listed.filter(|number| !NOT_IN_REPLAY.contains(number));
-        expected.extend(met.map(|number| format!("{call} no {number}")));
-    }
-    expected
-}
-
-fn name_record(started: bool, bytes: &[u8], said: &Said) -> String {
-    let what = match record::read(bytes) {
-        _ if !started => "first".to_string(),
-        Err(_) => "unreadable".to_string(),
-        Ok(Record::Start { .. }) => "start".to_string(),
-        Ok(Record::Event { call, .. }) => call.to_string(),
-    };
-    match said {
-        Said::Ok(woken) if what == "complete" => format!("{what} ok {}", amount(woken.len())),
-        _ => format!("{what} {said}"),
-    }
-}
-
-/// Of reading's refusals, 20 and 1, the next that applies to the record as well.
-/// (What 17 and 18 refuse is never a start, so with them there is nothing to tell.)
-fn together(started: bool, bytes: &[u8], said: &Said) -> Option<String> {
-    let start = bytes.first().is_some_and(|byte| byte >> 5 == 5);
-    let no_limit = start && bytes.get(6..10) == Some(&[0; 4]);
-    let place = if started { "later" } else { "first" };
-    let pair = match said {
-        Said::No(19) if start == started => "19 20",
-        Said::No(19) if no_limit => "19 1",
-        Said::No(20) if no_limit => "20 1",
-        _ => return None,
-    };
-    Some(format!("together {place} {pair}"))
-}
-
-/// Counts what the listings of these recordings say of each kind of record.
-pub fn of_recordings(recordings: &[Vec<u8>], mut out: impl Write) -> io::Result<bool> {
-    let mut tally = Tally::default();
-    let mut counted = 0_u64;
-    for recording in recordings {
-        walk(recording.as_slice(), |started, bytes, said| {
-            counted += 1;
-            tally.count(name_record(started, bytes, said));
-            if let Some(pair) = together(started, bytes, said) {
-                tally.count(pair);
-            }
-            Ok(())
-        })?;
-    }
-    writeln!(out, "counted {counted}")?;
-    tally.print(&expected_of_recordings(), out)
 }

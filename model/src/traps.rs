@@ -8,12 +8,20 @@ use crate::clock;
 use crate::set::{from_number, Set};
 
 /// Every trap.
-pub const TRAPS: [&str; 17] = [
+pub const TRAPS: [&str; 27] = [
     "ask waits for a set of which a part is free",
     "ask waits for what nobody holds",
     "complete leaves a set of which a part is free",
     "complete wakes by a set",
     "complete wakes by a token",
+    "give-up leaves a set of which a part is free",
+    "give-up wakes by a set",
+    "give-up of what is not held",
+    "give-up of all that is declared",
+    "give-up of what is asked and declared by another ahead",
+    "open waits behind one that declares nothing",
+    "complete of one that declares nothing",
+    "report of one that declares nothing",
     "overdue at the limit",
     "overdue a millisecond before the limit",
     "beat over the wrap",
@@ -21,24 +29,29 @@ pub const TRAPS: [&str; 17] = [
     "ask over the wrap",
     "release over the wrap",
     "complete over the wrap",
+    "give-up over the wrap",
     "overdue over the wrap",
     "open refused with a later tick",
     "ask refused with a later tick",
     "release refused with a later tick",
     "complete refused with a later tick",
+    "give-up refused with a later tick",
 ];
 
 /// The traps that lie in a case with this outcome.
 pub fn in_case(case: &Case, outcome: &Outcome) -> Vec<String> {
+    if let Answer::No(number) = outcome.answer {
+        return refused(case, number);
+    }
     let before = Arbiter::of(&case.table);
     let call = case.call;
     let mut traps = match outcome.answer {
-        Answer::No(number) => return refused(case, number),
         Answer::Wait if call == Call::Ask => ask(case, &before),
-        Answer::Woke(_) => complete(&before, &Arbiter::of(&outcome.table)),
+        Answer::Woke(_) => wake(case, &before, &Arbiter::of(&outcome.table)),
         Answer::Overdue(_) => overdue(case, &before),
         _ => Vec::new(),
     };
+    traps.extend(nothing_declared(case, outcome, &before));
     let ticks = EVENTS.contains(&call) || call == Call::Overdue;
     if ticks && case.tick < clock::tick_after(case.table.time, 0) {
         traps.push(format!("{call} over the wrap"));
@@ -73,8 +86,12 @@ fn part_is_free(arbiter: &Arbiter, turn: u64, set: &Set) -> bool {
     set.iter().any(free)
 }
 
-fn complete(before: &Arbiter, after: &Arbiter) -> Vec<String> {
-    let mut traps = Vec::new();
+fn wake(case: &Case, before: &Arbiter, after: &Arbiter) -> Vec<String> {
+    let call = case.call;
+    let mut traps = match call {
+        Call::GiveUp => give_up(case, before, after),
+        _ => Vec::new(),
+    };
     for now in &after.line {
         let then = before.request(u32::from(now.job)).expect("only one left");
         if before.waits(then) && !after.waits(now) {
@@ -83,13 +100,47 @@ fn complete(before: &Arbiter, after: &Arbiter) -> Vec<String> {
             } else {
                 "set"
             };
-            traps.push(format!("complete wakes by a {by}"));
+            traps.push(format!("{call} wakes by a {by}"));
         }
         if part_is_free(after, now.turn, &now.asked) {
-            traps.push("complete leaves a set of which a part is free".to_string());
+            traps.push(format!("{call} leaves a set of which a part is free"));
         }
     }
     traps
+}
+
+fn give_up(case: &Case, before: &Arbiter, after: &Arbiter) -> Vec<String> {
+    let set = from_number(case.set);
+    let request = before.request(case.job).expect("it was accepted");
+    let still_waits = |r: &Request| after.in_the_way(r.turn, &(&r.asked & &set)) > 0;
+    let mut traps = Vec::new();
+    if !set.is_subset(&request.held) {
+        traps.push("give-up of what is not held".to_string());
+    }
+    if set == request.declared {
+        traps.push("give-up of all that is declared".to_string());
+    }
+    if after.line.iter().any(still_waits) {
+        traps.push("give-up of what is asked and declared by another ahead".to_string());
+    }
+    traps
+}
+
+/// A request that declares nothing any more is live all the same.
+fn nothing_declared(case: &Case, outcome: &Outcome, before: &Arbiter) -> Option<String> {
+    let call = case.call;
+    let empty = |r: &Request| r.declared.is_empty();
+    let others = before.line.iter().filter(|r| !empty(r)).count();
+    let waits_for_one = outcome.answer == Answer::Wait && others < usize::from(before.tokens);
+    match call {
+        Call::Open if waits_for_one => {
+            Some(format!("{call} waits behind one that declares nothing"))
+        }
+        Call::Complete | Call::Report if before.request(case.job).is_some_and(empty) => {
+            Some(format!("{call} of one that declares nothing"))
+        }
+        _ => None,
+    }
 }
 
 fn overdue(case: &Case, before: &Arbiter) -> Vec<String> {
