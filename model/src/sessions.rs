@@ -435,9 +435,10 @@ fn lines_stand_for_records_and_questions() {
     }
 }
 
-const CALLS_BY_HAND: [&str; 2] = [
+const CALLS_BY_HAND: [&str; 3] = [
     include_str!("../../tests/calls/sessions.calls"),
     include_str!("../../tests/calls/clock.calls"),
+    include_str!("../../tests/calls/give-up.calls"),
 ];
 
 /// Whether the probe prints just the answers that are written by hand.
