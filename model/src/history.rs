@@ -8,42 +8,32 @@ use crate::case::Call;
 use crate::record::Record;
 use crate::table::Table;
 
-/// How a request and an earlier one that was in its way part.
-#[derive(Clone, Copy)]
-enum Parting {
-    Completion,
-    GiveUp,
-    OwnGiveUp,
-}
+/// How a request parts from an earlier one that was in its way.
+const COMPLETION: &str = "parted by the earlier one's completion";
+const GIVE_UP: &str = "parted by the earlier one's give up";
+const OWN_GIVE_UP: &str = "parted by its own give up";
+
+/// The completion of one from which a request has parted lowers its number no further.
+const BEHIND_GIVE_UP: &str = "completed behind its give up that parted";
+const BEHIND_OWN_GIVE_UP: &str = "completed behind the other's give up that parted";
+
+const EMPTIED: &str = "gave up all that it still declared";
 
 /// What can happen to requests that have their tokens and to those in their way.
 pub const HAPPENINGS: [&str; 6] = [
-    "parted by the earlier one's completion",
-    "parted by the earlier one's give up",
-    "parted by its own give up",
-    "completion of one that parted by its give up",
-    "completion of one parted from by a give up",
-    "give up of all that was still declared",
+    COMPLETION,
+    GIVE_UP,
+    OWN_GIVE_UP,
+    BEHIND_GIVE_UP,
+    BEHIND_OWN_GIVE_UP,
+    EMPTIED,
 ];
-
-impl Parting {
-    fn happens(self) -> &'static str {
-        HAPPENINGS[self as usize]
-    }
-
-    /// A completion of the earlier one behind this parting lowers nothing further.
-    fn is_followed(self) -> &'static str {
-        match self {
-            Parting::OwnGiveUp => HAPPENINGS[4],
-            _ => HAPPENINGS[3],
-        }
-    }
-}
 
 /// An earlier request that was in the way when the token came.
 struct Earlier {
     opening: u64,
-    parted: Option<Parting>,
+    /// How the two have parted.
+    parted: Option<&'static str>,
 }
 
 struct Live {
@@ -70,16 +60,18 @@ impl Live {
     }
 
     /// What happens if they have not parted yet.
-    fn parts(&mut self, opening: u64, how: Parting) -> Option<&'static str> {
+    fn parts(&mut self, opening: u64, how: &'static str) -> Option<&'static str> {
         let earlier = self.earlier(opening).filter(|e| e.parted.is_none())?;
         earlier.parted = Some(how);
-        Some(how.happens())
+        Some(how)
     }
 
+    /// What happens when the one of this opening completes.
     fn loses(&mut self, opening: u64) -> Option<&'static str> {
         match self.earlier(opening)?.parted {
-            None => self.parts(opening, Parting::Completion),
-            Some(how) => Some(how.is_followed()),
+            None => self.parts(opening, COMPLETION),
+            Some(OWN_GIVE_UP) => Some(BEHIND_OWN_GIVE_UP),
+            Some(_) => Some(BEHIND_GIVE_UP),
         }
     }
 
@@ -170,17 +162,17 @@ impl History {
         let (earlier, rest) = self.line.split_at_mut(place);
         let (giver, later) = rest.split_first_mut().expect("its place is in line");
         let apart = later.iter_mut().filter(|other| !other.shares(giver));
-        let by_it = apart.filter_map(|other| other.parts(giver.opening, Parting::GiveUp));
+        let by_it = apart.filter_map(|other| other.parts(giver.opening, GIVE_UP));
         let mut happened: Vec<&str> = by_it.collect();
         if giver.declares == 0 {
-            happened.push(HAPPENINGS[5]);
+            happened.push(EMPTIED);
         }
         let earlier: Vec<u64> = earlier
             .iter()
             .filter(|other| !other.shares(giver))
             .map(|other| other.opening)
             .collect();
-        let own = |&opening| giver.parts(opening, Parting::OwnGiveUp);
+        let own = |&opening| giver.parts(opening, OWN_GIVE_UP);
         happened.extend(earlier.iter().filter_map(own));
         happened
     }

@@ -160,6 +160,25 @@ fn rows_that_make_no_table() {
     assert_eq!(load(&changed(doubled)), Err(3));
 }
 
+/// Its second row has the second token, if there is one.
+#[test]
+fn a_row_that_declares_nothing_has_its_token() {
+    let emptied = |l: &mut Layout| {
+        l.rows[1].declared = 0;
+        l.rows[1].asked = 0;
+        l.rows[1].since = 0;
+    };
+    let with_token = changed(emptied);
+    let table = load(&with_token).expect("a sound table");
+    assert_eq!(table.rows[63].declared, 0);
+    assert_eq!(file(&table), with_token);
+    let without = changed(|l| {
+        emptied(l);
+        l.head.tokens_less_1 = 0;
+    });
+    assert_eq!(load(&without), Err(3));
+}
+
 /// Each table would be sound, were its rows taken as they come.
 #[test]
 fn more_rows_than_jobs() {
