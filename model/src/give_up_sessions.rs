@@ -46,7 +46,8 @@ fn a_give_up_in_its_recorded_form() {
     assert_eq!(session.call(Call::WriteGiveUp, 64, 0, &[0]), "no 4");
 }
 
-/// Job 4 shares something with each of three before it, and parts from each once.
+/// Job 4 shares something with each of three before it, and parts from each once. The
+/// numbers are those of 3, as long as it is live, and of 4.
 #[test]
 fn each_parting_lowers_the_number_in_the_way_once() {
     let mut session = Session::start(4, 3, 0, 1);
@@ -58,37 +59,27 @@ fn each_parting_lowers_the_number_in_the_way_once() {
     ] {
         assert_eq!(session.open(job, 0, set), "token");
     }
-    let mut numbers = vec![(session.in_the_way(3), session.in_the_way(4))];
-    let steps: [(u32, &[u8]); 7] = [
-        (1, &[0]), // the last that 1 and 3 share; with 4 it shares another
-        (1, &[1]), // the last that 1 and 4 share
-        (4, &[2]), // with 2 and 3 it shares others
-        (4, &[1]), // the last that 2 and 4 share
-        (2, &[]),  // parts from 3; from 4 it has parted
-        (1, &[]),  // has parted from both
-        (3, &[]),  // parts from 4
-    ];
-    for (job, set) in steps {
-        if set.is_empty() {
-            session.complete(job);
-        } else {
-            session.give_up(job, set);
-        }
-        let three = session.0.rows[3].turn != 0;
-        let of_three = if three { session.in_the_way(3) } else { 0 };
-        numbers.push((of_three, session.in_the_way(4)));
-    }
-    let expected = [
-        (2, 3),
-        (1, 3),
-        (1, 2),
-        (1, 2),
-        (1, 1),
-        (0, 1),
-        (0, 1),
-        (0, 0),
-    ];
-    assert_eq!(numbers, expected);
+    assert_eq!((session.in_the_way(3), session.in_the_way(4)), (2, 3));
+    // The last that 1 and 3 share; with 4 it shares another.
+    session.give_up(1, &[0]);
+    assert_eq!((session.in_the_way(3), session.in_the_way(4)), (1, 3));
+    // The last that 1 and 4 share.
+    session.give_up(1, &[1]);
+    assert_eq!((session.in_the_way(3), session.in_the_way(4)), (1, 2));
+    // With 2 and 3 it shares others.
+    session.give_up(4, &[2]);
+    assert_eq!((session.in_the_way(3), session.in_the_way(4)), (1, 2));
+    // The last that 2 and 4 share.
+    session.give_up(4, &[1]);
+    assert_eq!((session.in_the_way(3), session.in_the_way(4)), (1, 1));
+    // Parts from 3; from 4 it has parted.
+    session.complete(2);
+    assert_eq!((session.in_the_way(3), session.in_the_way(4)), (0, 1));
+    // Has parted from both.
+    session.complete(1);
+    assert_eq!((session.in_the_way(3), session.in_the_way(4)), (0, 1));
+    session.complete(3);
+    assert_eq!(session.in_the_way(4), 0);
 }
 
 #[test]

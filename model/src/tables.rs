@@ -87,6 +87,7 @@ fn filled(random: &mut Random, mut table: Table, requests: u64) -> Table {
     let gap = random.pick(&[1, 3, 1 << 40]);
     let mut idle: Set = (0..JOBS as u8).collect();
     let mut declared_ahead = Set::new();
+    // One that declares everything, with all others behind it: its give up wakes several.
     let behind_one = random.one_in(4);
     for place in 0..requests {
         let job = random.member(&idle).expect("no more requests than jobs");
