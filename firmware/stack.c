@@ -41,6 +41,11 @@ static void complete(void)
     refusal = norakkeun_complete(table, 0, (norakkeun_tick){100}, list, sizeof list).refusal;
 }
 
+static void give_up(void)
+{
+    refusal = norakkeun_give_up(table, 0, (norakkeun_tick){100}, 1, list, sizeof list).refusal;
+}
+
 static void report(void) { refusal = norakkeun_report(table, 63).refusal; }
 
 static void overdue(void) { refusal = norakkeun_overdue(table, (norakkeun_tick){100}, list, sizeof list).refusal; }
@@ -117,6 +122,7 @@ int main(void)
     measure("ask", ask);
     measure("release", release);
     measure("complete", complete);
+    measure("give_up", give_up);
     measure("report", report);
     measure("overdue", overdue);
     measure("record_open", record_open);

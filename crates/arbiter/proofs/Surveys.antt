@@ -1,5 +1,5 @@
 -- What a survey of a table tells of an event.
-use Rattle.arbiter.specs.Prelude.{Bool, Bounds, Event, Known, List, Listed, Report, Row, Seen, Settles, Survey, Surveyed, Swept, Table, _<_, _^_, _∙_, _≡_, about, ahead, ap, calling, inWay, jobOf, lateIn, ltb, meets, outcome, setOf, subst, sym, tickOf, token, true, waiting-by, waitingBy, ℕ}
+use Rattle.arbiter.specs.Prelude.{Bool, Bounds, Event, Known, Lines, List, Listed, Report, Row, Seen, Settles, Survey, Surveyed, Swept, Table, _<_, _^_, _∙_, _≡_, about, ahead, ap, calling, inWay, jobOf, lateIn, ltb, meets, outcome, setOf, subst, sym, tickOf, token, true, waiting-by, waitingBy, ℕ}
 use Rattle.arbiter.specs.ChangeLaws.{all-ahead, changeOn, forbids, hasRoom, seen-by, sound-by, sound-last, survey-tells}
 use Rattle.decision.specs.Changes.{changeFor, refusalCases}
 use Rattle.arbiter.specs.Bounded.{boundsOf}
@@ -41,6 +41,11 @@ pub last-seen :
 last-seen t j v survey ok =
     let sound = sym (survey .told) ∙ ok in
     subst (λ (s : Seen). s .last .0 < 2 ^ 63) (sym (survey .known sound .sees)) (sound-last t (sym (sound-by t) ∙ sound))
+
+-- of a sound table the line that was found is its own
+pub line-seen :
+    (t : Table) (j : ℕ) (v : Survey) → Surveyed (boundsOf t) (t .rows) j v → sound t ≡ true → Lines (t .rows) (v .line)
+line-seen t j v survey ok = survey .known (sound-by t ∙ ok) .lines
 
 -- ---- What was done by the numbers of a table was done by the table
 

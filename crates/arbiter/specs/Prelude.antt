@@ -43,7 +43,7 @@ pub use Rattle.rows.specs.InLine.{count-line}
 pub use Rattle.rows.specs.InWay.{in-way-at, in-way-some}
 pub use Rattle.rows.specs.KnownLaws.{waiting-by}
 pub use Rattle.rows.specs.Line.{line, rowOf}
-pub use Rattle.line.specs.LineInCode.{Listed}
+pub use Rattle.line.specs.LineInCode.{Lines, Listed}
 pub use Rattle.rows.specs.Order.{blocked, distinct, earlier, idle, inWay, live, token}
 unfoldable pub use Rattle.rows.specs.Order.{ahead}
 pub use Rattle.rows.specs.Propositions.{InTheWay}

@@ -1,16 +1,18 @@
 // The calls: start, the six events and the two questions. An event takes the table by value and returns the next.
-ghost use Prim.Native.Nat.{_<_, _^_};
+ghost use Prim.Native.Nat.{_<_, _^_, _≤_};
 ghost use mathlib.Core.Bool.{false, true};
 ghost use mathlib.Core.Path.{_≡_};
-ghost use lib.ListN.{set};
+ghost use lib.ListN.{length, set};
 ghost use Rattle.event.specs.Events.{about};
 ghost use Rattle.event.specs.Limits.{jobs};
 ghost use Rattle.event.specs.declared.events.Event.the-variants.{Ask, Beat, Complete, GiveUp, Open, Release};
+ghost use Rattle.line.specs.LineInCode.{Lines};
 ghost use Rattle.arbiter.specs.ChangeLaws.{Decides, Finds};
 ghost use Rattle.arbiter.specs.Bounded.{boundsOf};
 ghost use Rattle.arbiter.specs.Effects.{Refuses};
 ghost use Rattle.arbiter.specs.Meaning.{moved};
 ghost use Rattle.arbiter.specs.Promises.{Answered, AnsweredInto, OverdueAnswered, ReportAnswered, Started};
+ghost use Rattle.arbiter.specs.Sound.{sound};
 use crate::table::Late;
 use crate::table::Next;
 use crate::table::Report;
@@ -26,6 +28,7 @@ use event::Refusal;
 use event::Tick;
 use event::parts_of;
 use laws::sets;
+use line::Line;
 use pass::Survey;
 use pass::survey;
 use questions::in_way;
@@ -121,23 +124,18 @@ fn written(t: Table, event: Event, decision: Decision) -> Next
     }
 }
 
-// An event that may wake others: it is refused, or its row is written, and whoever can go on goes on. Their jobs are written
-// to the lent list in order of turn.
-fn waking(t: Table, event: Event, woken: &mut [u8]) -> Next
-    requires { ⌜ about event .wakes ≡ true ⌝ }
+// An event that may wake others, carried out as decided: it is refused, or its row is written, and whoever can go on goes on.
+// Their jobs are written to the lent list in order of turn.
+fn waking(t: Table, event: Event, line: Line, decision: Decision, woken: &mut [u8]) -> Next
+    requires { ⌜ (about event .wakes ≡ true) × Decides t event decision ⌝ }
+    requires { ⌜ (sound t ≡ true → Lines (t .rows) line) × (jobs ≤ length (now woken)) ⌝ }
     ensures { λ r. ⌜ AnsweredInto t event (now (woken .entry)) r (now (woken .exit)) ⌝ }
 {
-    if woken.len() < JOBS {
-        return refused(t, Refusal::ShortList);
-    }
-    let parts = parts_of(event);
-    let rows = t.rows;
-    let s = survey(rows, bounds(t), parts.job);
-    let decision = found(s, t.tokens, event);
     match decision {
         Decision::No(refusal) => refused(t, refusal),
         Decision::Goes(change) => {
-            let line = s.line;
+            let parts = parts_of(event);
+            let rows = t.rows;
             let last = change.last;
             let row = change.row;
             let swept = settle(rows, line, bounds(t), parts.job as usize, row, woken);
@@ -238,19 +236,32 @@ impl Table {
     pub fn complete(self, job: u32, tick: Tick, woken: &mut [u8]) -> Next
         ensures { λ r. ⌜ AnsweredInto self (Complete job tick) (now (woken .entry)) r (now (woken .exit)) ⌝ }
     {
-        waking(self, Event::Complete { job, tick }, woken)
+        if woken.len() < JOBS {
+            return refused(self, Refusal::ShortList);
+        }
+        let event = Event::Complete { job, tick };
+        let rows = self.rows;
+        let s = survey(rows, bounds(self), job);
+        let line = s.line;
+        waking(self, event, line, found(s, self.tokens, event), woken)
     }
 
     // The members leave the held and the declared set for good, and whoever can go on goes on.
     pub fn give_up(self, job: u32, tick: Tick, members: u64, woken: &mut [u8]) -> Next
         ensures { λ r. ⌜ AnsweredInto self (GiveUp job tick members) (now (woken .entry)) r (now (woken .exit)) ⌝ }
     {
+        if woken.len() < JOBS {
+            return refused(self, Refusal::ShortList);
+        }
         let event = Event::GiveUp {
             job,
             tick,
             set: members,
         };
-        waking(self, event, woken)
+        let rows = self.rows;
+        let s = survey(rows, bounds(self), job);
+        let line = s.line;
+        waking(self, event, line, found(s, self.tokens, event), woken)
     }
 
     // Any event; the only place that goes by its kind.
