@@ -1,12 +1,12 @@
 -- An event carried out by what it sees of a table is what the event means.
-use Rattle.arbiter.specs.Prelude.{Acts, Ask, Beat, Bool, Case, Change, Complete, Event, GiveUp, List, Next, NoToken, NotLive, Onward, Open, Refusal, Release, Row, Seen, Settles, Steady, SteadyRow, StillWaiting, Swept, Table, Tick, [], _&&_, _++_, _<_, _∙_, _≡_, _≤_, about, acceptance-tells, actor, ahead, all, among, and-left, and-right, ap, arith, calling, case, clear, clear-named, cond, described, ended, every-kind, false, fine, implied, implies, jobOf, jobs, kindOf, le-ltb, le-zero, leb-false, length, live, lt-ltb, ltb-false, ltb-true, none, not, not-false, ofRole, outcome, outcome-is, outcome-past, over, refl, refusalsOf, refused, set, setOf, settledRows, sound-steady, stayed, sym, this, tickOf, true, true≢false, woken, ℕ}
+use Rattle.arbiter.specs.Prelude.{Acts, Ask, Beat, Bool, Case, Change, Complete, Event, GiveUp, List, Next, NoToken, NotLive, Onward, Open, Refusal, Release, Seen, Settles, StillWaiting, Swept, Table, [], _&&_, _++_, _<_, _∙_, _≡_, _≤_, about, acceptance-tells, actor, ahead, all, among, and-left, and-right, ap, arith, calling, case, clear, clear-named, cond, described, ended, every-kind, false, fine, implied, implies, jobOf, jobs, kindOf, le-ltb, le-zero, leb-false, length, live, lt-ltb, ltb-false, ltb-true, not, not-false, ofRole, outcome, outcome-is, outcome-past, over, refl, refusalsOf, refused, set, setOf, settledRows, sound-steady, stayed, sym, this, tickOf, true, true≢false, woken, ℕ}
 use Rattle.arbiter.specs.Answering.{accepted-answers}
 use Rattle.arbiter.specs.Answers.{saidOf, saysWoke}
 use Rattle.arbiter.specs.Bounded.{boundsOf}
 use Rattle.arbiter.specs.ChangeLaws.{change-accepted, change-said, changeOn, forbids, hasRoom, loud-accepted, loud-said, sound-by}
 use Rattle.decision.specs.Changes.{changeFor, refusalCases}
 use Rattle.arbiter.specs.Effects.{Does}
-use Rattle.arbiter.specs.Meaning.{accepted, moved, said, timeAt, wakes}
+use Rattle.arbiter.specs.Meaning.{accepted, moved, said, wakes}
 use Rattle.arbiter.specs.Promises.{Answered}
 use Rattle.arbiter.specs.Refusals.{applies, cases, listCases, seenIn}
 use Rattle.arbiter.specs.Sound.{rowIn, sound}

@@ -1,7 +1,6 @@
 -- What is promised determines what is handed back, and what is left in what was lent.
 use Rattle.arbiter.specs.Prelude.{Answer, Change, Count, Event, Late, List, Next, No, Outcome, Reported, Table, _≡_, answerBy, ap, determined, refl, refusalOf-numberOf, told-apart, ℕ}
 use Rattle.arbiter.specs.Answers.{Said, lateOf, reportOf, saidOf, saysDone, saysGranted, saysToken, saysWait, saysWoke}
-use Rattle.arbiter.specs.Effects.{Does}
 use Rattle.arbiter.specs.Promises.{Answered, AnsweredInto, ReportAnswered, Started, OverdueAnswered}
 use Rattle.decision.specs.Changes.{decided}
 use Rattle.decision.specs.declared.deciding.Decision.{Decision}
@@ -68,9 +67,6 @@ pub late-determined :
 late-determined p q = (told-apart lateOf (answerBy Lates.No Lates.Count) late-said (p .says) (q .says), determined (p .lists) (q .lists))
 
 -- ---- What the functions behind them promise
-
-pub does-determined : {said : Said} {t : Table} {r r′ : Next} → Does said t r → Does said t r′ → r ≡ r′
-does-determined p q = same-next (p .says) (q .says) (p .hands) (q .hands)
 
 decision-said : (d : Decision) → answerBy Decisions.No Decisions.Goes (decided d) ≡ d
 decision-said (Decisions.No r) = ap Decisions.No (refusalOf-numberOf r)

@@ -63,7 +63,6 @@ pub use Rattle.rows.specs.Sweep.{woken}
 pub use Rattle.rows.specs.Turns.{turn-earlier}
 pub use Rattle.pass.specs.Pass.{Known, Surveyed, seenBy}
 pub use Rattle.pass.specs.declared.known.Survey.{Survey}
-pub use Rattle.sweep.specs.Steady.{Steady, SteadyRow}
 pub use Rattle.sweep.specs.SteadyLaws.{sound-steady}
 pub use Rattle.sweep.specs.Sweeping.{Acts, Onward, Settles, ended, settledRows, stayed}
 pub use Rattle.sweep.specs.declared.settling.Swept.{Swept}

@@ -37,7 +37,7 @@ pub use Rattle.decision.specs.Accepting.{saw-sound}
 pub use Rattle.arbiter.specs.Carrying.{changes-answer, long-cases, may-act, settling-does, writes-onward}
 pub use Rattle.arbiter.specs.Bounded.{boundsOf}
 pub use Rattle.arbiter.specs.ChangeLaws.{Decides, changeOn, sound-by, sound-last}
-pub use Rattle.decision.specs.Changes.{decided, refusalCases}
+pub use Rattle.decision.specs.Changes.{refusalCases}
 pub use Rattle.arbiter.specs.Meaning.{moved, wakes}
 unfoldable pub use Rattle.arbiter.specs.Meaning.{answer, listed, next}
 pub use Rattle.arbiter.specs.Promises.{AnsweredInto}

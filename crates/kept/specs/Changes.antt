@@ -1,9 +1,8 @@
 -- What an accepted event does to the turns and declared sets of the rows, said once for each event, and what follows for every
 -- count.
-use Rattle.kept.specs.Prelude.{Ask, Beat, Bool, Complete, GiveUp, List, Open, Release, Row, Table, _&&_, _+_, _<_, _∙_, _≡_, _≤_, about, accepted, ahead, and-eq-true-iff, and-not-self, and-true, ap, arith, blocked, claims, cond, count, decLe, earlier, either, eq-eqb, false, false≢true, getD-set-other, getD-set-same, givingUp, gone, gone-balance, gone-none, hasJob, idle, inWay, jobOf, length, length-set, length-settled, live, live-within, ltb, meets, names, not, not-earlier, openedRow, openingOf, refl, row-settled, rowAfter, rowIn, rowOf, rowsWith, set, set-out, setOf, settled, subst, swept-idle, swept-keeps, sweptRow, sym, tickOf, timeAt, true, true≢false, without, ℕ, ℕ-discrete}
+use Rattle.kept.specs.Prelude.{Ask, Beat, Bool, Complete, GiveUp, List, Open, Release, Row, Table, _&&_, _+_, _<_, _∙_, _≡_, _≤_, about, accepted, ahead, and-eq-true-iff, and-not-self, and-true, ap, arith, blocked, claims, cond, count, decLe, earlier, either, eq-eqb, false, false≢true, getD-set-other, getD-set-same, givingUp, gone, gone-balance, gone-none, hasJob, idle, inWay, jobOf, length, length-set, length-settled, live, live-within, ltb, meets, meets-without, names, not, not-earlier, openedRow, openingOf, refl, row-settled, rowAfter, rowIn, rowOf, rowsWith, set, set-out, setOf, settled, subst, swept-idle, swept-keeps, sweptRow, sym, tickOf, timeAt, true, true≢false, without, ℕ, ℕ-discrete}
 use Rattle.event.specs.declared.events.Event.{Event}
 use Rattle.kept.specs.Accepted.{acts, open-idle}
-use Rattle.kept.specs.Sets.{meets-without}
 use Rattle.kept.specs.Words.{Accepts, Acts, Alike, ByOpening, ByTurn, Change, Clearer, Lower, began, ended, ends, gave, kept}
 
 -- ---- What becomes of a row

@@ -1,12 +1,11 @@
 -- Every accepted event leaves a sound table.
-use Rattle.kept.specs.Prelude.{Ask, Beat, Bool, Complete, GiveUp, List, Open, Release, Row, Table, Tick, _+_, _-_, _<_, _^_, _∙_, _≡_, _≢_, _≤_, accepted, ahead, ap, arith, askedRow, at-set, below, case, cond, decLe, distinct-rows, distinct-set, distinct-settled, distinct-test, eqb-false, false, givingUp, idle, in-way-empty, inside, inside-empty, inside-refl, inside-trans, le-refl, length, live-within, lt-irrefl, lt-ltb, ltb-false, meets, meets-comm, meets-empty, moved, not-false, openedRow, refl, releasing, row-settled, rowIn, set, set-out, settled, swept-idle, sweptRow, sym, timeAt, token, true, waiting, waiting-reads, without, without-inside, ℕ}
+use Rattle.kept.specs.Prelude.{Ask, Beat, Bool, Complete, GiveUp, List, Open, Release, Row, Table, Tick, _+_, _-_, _<_, _^_, _∙_, _≡_, _≢_, _≤_, accepted, ahead, ap, arith, askedRow, at-set, below, case, cond, decLe, distinct-rows, distinct-set, distinct-settled, distinct-test, eqb-false, false, givingUp, idle, in-way-empty, inside, inside-empty, inside-refl, inside-trans, inside-without, le-refl, length, live-within, lt-irrefl, lt-ltb, ltb-false, meets, meets-comm, meets-empty, moved, not-false, openedRow, refl, releasing, row-settled, rowIn, set, set-out, settled, swept-idle, sweptRow, sym, timeAt, token, true, waiting, waiting-reads, without, without-inside, ℕ}
 use Rattle.event.specs.declared.events.Event.{Event}
 use Rattle.kept.specs.Words.{Accepts, Acts, Asked, Decided, Swept, grants, waits, Alike, Clearer, NoEarlier}
 use Rattle.kept.specs.Accepted.{acts, open-idle, passed, was-sound}
 use Rattle.kept.specs.Changes.{clearer}
 use Rattle.kept.specs.Decisions.{asks, sweeps}
 use Rattle.kept.specs.Rows.{alike-clearer, alike-kept, alike-opened, alike-self, alike-settled, carried, decided, decided-alike, lessened}
-use Rattle.kept.specs.Sets.{inside-without}
 use Rattle.kept.specs.Sound.Words.{LiveRow, SoundRow, SoundTable}
 use Rattle.kept.specs.Sound.Tests.{idle-sound}
 

@@ -1,11 +1,10 @@
 -- What a give up leaves, and what is left to a request that has given up all, by name.
-use Rattle.kept.specs.Prelude.{Ask, GiveUp, Release, Row, Table, Tick, accepted, ahead, and-false, ap, arith, case, claims, earlier, eqb-false, false, getD-set-same, givingUp, idle, le-ltb, live, live-within, lt-ltb, ltb-true, meets-comm, meets-empty, next, not, not-false, refl, row-settled, rowIn, rowsWith, sound, sweptRow, true, ℕ, _∙_, _≡_, _≤_}
+use Rattle.kept.specs.Prelude.{Ask, GiveUp, Release, Row, Table, Tick, _∙_, _≡_, _≤_, accepted, ahead, and-false, ap, arith, case, claims, earlier, eqb-false, false, getD-set-same, givingUp, idle, inside-le, le-ltb, live, live-within, lt-ltb, ltb-true, meets-comm, meets-empty, next, not, not-false, refl, row-settled, rowIn, rowsWith, sound, sweptRow, true, ℕ}
 use Rattle.event.specs.declared.events.Event.{Event}
 use Rattle.kept.specs.Words.{Accepts, Acts, OnlyCompletes}
 use Rattle.kept.specs.Accepted.{acts, next-accepted, passed, was-sound}
 use Rattle.kept.specs.Changes.{clearer}
 use Rattle.kept.specs.Decisions.{nothing-swept}
-use Rattle.kept.specs.Sets.{inside-le}
 use Rattle.kept.specs.Sound.Words.{LiveRow}
 use Rattle.kept.specs.Sound.Tests.{table-sound}
 

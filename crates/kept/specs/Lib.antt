@@ -7,7 +7,6 @@ pub mod GivenUp
 pub mod Named
 pub mod Prelude
 pub mod Rows
-pub mod Sets
 pub mod Sound
 pub mod Soundness
 pub mod Woken

@@ -9,7 +9,6 @@ pub use native.Mathlib.Nat.{le-antisymm, le-of-eq, le-refl, lt-irrefl, not-suc-l
 pub use native.Mathlib.Omega.{arith}
 pub use borrow.Author.Tests.{eq-eqb, eqb-false, eqb-true, le-leb, le-ltb, leb-false, leb-true, lt-ltb, ltb-false, ltb-true, not-false, not-true}
 pub use lib.Arith.{le-zero}
-pub use lib.Bits.{and-le-r}
 pub use lib.Dec.{eqb, leb, ltb}
 pub use lib.ListN.{getD, length, length-set, replicate, set}
 pub use lib.Seq.{getD-set-other, getD-set-same, set-out}
@@ -24,8 +23,8 @@ pub use Rattle.laws.specs.GoneLaws.{gone-balance, gone-none}
 pub use Rattle.laws.specs.HoldLaws.{hold, nth}
 unfoldable pub use Rattle.laws.specs.Lists.{all, count, gone}
 pub use Rattle.laws.specs.Lists.{holds}
-pub use Rattle.laws.specs.SetLaws.{ext, inside-empty, inside-reads, inside-refl, inside-trans, inside-union, meets-comm, meets-empty, meets-inside, meets-reads, member-empty, member-union, member-without, union-empty, union-self, without-inside}
-unfoldable pub use Rattle.laws.specs.Sets.{below, inside, meet, meets, union, without}
+pub use Rattle.laws.specs.SetLaws.{inside-empty, inside-le, inside-reads, inside-refl, inside-trans, inside-union, inside-without, meets-comm, meets-empty, meets-inside, meets-reads, meets-without, member-empty, member-without, union-empty, union-self, without-inside}
+unfoldable pub use Rattle.laws.specs.Sets.{below, inside, meets, union, without}
 pub use Rattle.laws.specs.Sets.{member}
 pub use Rattle.event.specs.Clock.{clockRefusals}
 pub use Rattle.event.specs.Events.{Role, about, actor, refusalsOf, hasJob, jobOf, names, nobody, opener, setOf, tickOf}

@@ -1,6 +1,5 @@
 -- When a row stays sound, though the table around it moves on.
-use Rattle.kept.specs.Prelude.{Bool, List, Row, Table, _&&_, _<_, _||_, _∙_, _≡_, _≤_, ahead, ahead-set, ahead-settled, ap, arith, below, bit, claims, decLe, earlier, false, idle, in-way-inside, in-way-set, in-way-settled, in-way-union, inside, inside-empty, inside-union, le-of-eq, length, live, lt-ltb, ltb, ltb-true, meets, meets-empty, meets-inside, not, not-earlier, refl, rowOf, set, set-out, settled, sym, true, union-self, waiting, ℕ}
-use Rattle.kept.specs.Sets.{inside-le}
+use Rattle.kept.specs.Prelude.{Bool, List, Row, Table, _&&_, _<_, _||_, _∙_, _≡_, _≤_, ahead, ahead-set, ahead-settled, ap, arith, below, bit, claims, decLe, earlier, false, idle, in-way-inside, in-way-set, in-way-settled, in-way-union, inside, inside-empty, inside-le, inside-union, le-of-eq, length, live, lt-ltb, ltb, ltb-true, meets, meets-empty, meets-inside, not, not-earlier, refl, rowOf, set, set-out, settled, sym, true, union-self, waiting, ℕ}
 use Rattle.kept.specs.Words.{Decided, grants, waits, Alike, NoEarlier, Clearer}
 use Rattle.kept.specs.Sound.Words.{LiveRow}
 

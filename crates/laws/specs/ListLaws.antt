@@ -1,5 +1,5 @@
 -- Laws of how many, any and all.
-use Rattle.laws.specs.Prelude.{_&&_, _+_, _++_, _<_, Bool, List, [], add-assoc, add-comm, add-one, add-zero, and-assoc, and-comm, ap, arith, below-more, drop, drop-cons, drop-of-length-le, false, getD, getD-set-other, getD-set-same, le-of-suc-le-suc, length, lt-ltb, ltb, ltb-false, map, not-suc-le-zero, or-assoc, or-comm, refl, set, suc, sym, true, zero, zero-add, _||_, ℕ, _∙_, _∷_, _≡_, _≤_}
+use Rattle.laws.specs.Prelude.{_&&_, _+_, _++_, _<_, Bool, List, [], add-assoc, add-comm, add-one, add-zero, and-assoc, ap, arith, below-more, drop, drop-cons, drop-of-length-le, false, getD, getD-set-other, getD-set-same, le-of-suc-le-suc, length, lt-ltb, ltb, ltb-false, map, not-suc-le-zero, refl, set, suc, sym, true, zero, zero-add, _||_, ℕ, _∙_, _∷_, _≡_, _≤_}
 use Rattle.laws.specs.Bools.{bit}
 use Rattle.laws.specs.BoolLaws.{bit-le, or-clear}
 use Rattle.laws.specs.Lists.{count, any, all}
@@ -21,14 +21,6 @@ module _ {A : Type 0} (f : A → Bool) where
       (l : List A) (i : ℕ) (x d : A) → i < length l → count f (set l i x) + bit (f (getD l i d)) ≡ count f l + bit (f x)
   unfolding count
   count-set = joined-set _+_ add-assoc add-comm (λ x. bit (f x)) (count f) (λ x l. refl)
-
-  pub any-set : (l : List A) (i : ℕ) (x d : A) → i < length l → (any f (set l i x) || f (getD l i d)) ≡ (any f l || f x)
-  unfolding any
-  any-set = joined-set _||_ or-assoc or-comm f (any f) (λ x l. refl)
-
-  pub all-set : (l : List A) (i : ℕ) (x d : A) → i < length l → (all f (set l i x) && f (getD l i d)) ≡ (all f l && f x)
-  unfolding all
-  all-set = joined-set _&&_ and-assoc and-comm f (all f) (λ x l. refl)
 
 -- ---- Of two lists
 
@@ -80,10 +72,6 @@ module _ {A : Type 0} (f : A → Bool) (l : List A) (i : ℕ) (d : A) (below : i
   pub count-drop : count f (drop i l) ≡ bit (f (getD l i d)) + count f (drop (i + 1) l)
   unfolding count
   count-drop = rw (add-one, drop-cons l i d below)
-
-  pub any-drop : any f (drop i l) ≡ (f (getD l i d) || any f (drop (i + 1) l))
-  unfolding any
-  any-drop = rw (add-one, drop-cons l i d below)
 
   pub all-drop : all f (drop i l) ≡ (f (getD l i d) && all f (drop (i + 1) l))
   unfolding all

@@ -1,6 +1,6 @@
 -- The names from outside that this crate's definitions and proofs use, passed on by one module.
 pub use Prim.Native.Nat.{_%_, _+_, _-_, _/_, _<_, _^_, _≤_, min, suc, zero, ℕ}
-pub use mathlib.Core.Bool.{Bool, _&&_, _||_, and-assoc, and-comm, and-eq-true-iff, and-or-distrib-left, and-self, and-self-left, and-true, cond, false, false≢true, not, or-assoc, or-comm, or-false, or-self, true, true≢false}
+pub use mathlib.Core.Bool.{Bool, _&&_, _||_, and-assoc, and-comm, and-eq-true-iff, and-or-distrib-left, and-self, and-self-left, and-true, cond, false, false≢true, not, or-comm, or-false, or-self, true, true≢false}
 unfoldable pub use mathlib.Core.Bool.{xor}
 pub use mathlib.Core.List.{List, [], _++_, _∷_, append-assoc, append-nil, map}
 pub use mathlib.Core.Logic.{_↔_}

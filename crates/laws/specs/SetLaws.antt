@@ -1,6 +1,6 @@
 -- Laws of sets as numbers, for numbers of any size, so for every width at once.
-use Rattle.laws.specs.Prelude.{_%_, _&&_, _+_, _-_, _/_, _<_, Bool, _^_, add-sub-of-le, and-assoc, and-comm, and-eq-true-iff, and-le-l, and-le-r, and-mod, and-or-distrib-left, and-self, and-self-left, and-shr, ap, arith, bin-ind, bitAnd, bitOr, bitXor, div-eq-of-lt, eq-eqb, eqb, eqb-false, eqb-true, false, le-add-right, le-div-iff-mul-le, le-zero, lt-ltb, ltb, ltb-false, ltb-true, mod-lt, ne-eqb, not, not-true, or-add-and, or-assoc, or-comm, or-false, or-mod, or-self, or-shr, pow-pos, refl, shr-shr, suc, sym, true, true≢false, xor, xor-add-and, xor-mod, xor-shr, zero, zero-div, _||_, ℕ, _↔_, _∙_, _≡_, _≤_}
-use Rattle.laws.specs.BoolLaws.{same}
+use Rattle.laws.specs.Prelude.{_%_, _&&_, _+_, _-_, _/_, _<_, Bool, _^_, add-sub-of-le, and-comm, and-eq-true-iff, and-le-l, and-le-r, and-mod, and-or-distrib-left, and-self, and-self-left, and-shr, and-true, ap, arith, bin-ind, bitAnd, bitOr, bitXor, div-eq-of-lt, eq-eqb, eqb, eqb-false, eqb-true, false, le-add-right, le-div-iff-mul-le, le-zero, lt-ltb, ltb, ltb-false, ltb-true, mod-lt, ne-eqb, not, not-true, or-add-and, or-comm, or-false, or-mod, or-self, or-shr, pow-pos, refl, shr-shr, suc, sym, true, true≢false, xor, xor-add-and, xor-mod, xor-shr, zero, zero-div, _||_, ℕ, _↔_, _∙_, _≡_, _≤_}
+use Rattle.laws.specs.BoolLaws.{and-right, same}
 use Rattle.laws.specs.Reads.{Reads}
 use Rattle.laws.specs.ReadsLaws.{reading}
 use Rattle.laws.specs.Sets.{member, meet, union, without, meets, inside, below}
@@ -177,9 +177,6 @@ pub ruleset members = (member-meet, member-union, member-without, member-empty)
 pub union-comm : (s t : ℕ) → union s t ≡ union t s
 union-comm s t = ext (λ a. simp members (or-comm (member s a) (member t a)))
 
-pub union-assoc : (s t u : ℕ) → union (union s t) u ≡ union s (union t u)
-union-assoc s t u = ext (λ a. simp members (or-assoc (member s a) (member t a) (member u a)))
-
 pub union-self : (s : ℕ) → union s s ≡ s
 union-self s = ext (λ a. simp members (or-self (member s a)))
 
@@ -188,9 +185,6 @@ union-empty s = ext (λ a. simp (members, or-false))
 
 pub meet-comm : (s t : ℕ) → meet s t ≡ meet t s
 meet-comm s t = ext (λ a. simp members (and-comm (member s a) (member t a)))
-
-pub meet-assoc : (s t u : ℕ) → meet (meet s t) u ≡ meet s (meet t u)
-meet-assoc s t u = ext (λ a. simp members (and-assoc (member s a) (member t a) (member u a)))
 
 pub meet-self : (s : ℕ) → meet s s ≡ s
 meet-self s = ext (λ a. simp members (and-self (member s a)))
@@ -264,8 +258,52 @@ meets-empty s = meets-reads s 0 .fails .1 (λ a m. member-empty a)
 pub meets-inside : (s t u : ℕ) → inside s t ≡ true → meets t u ≡ false → meets s u ≡ false
 meets-inside s t u p q = meets-reads s u .fails .1 (λ a m. meets-reads t u .fails .0 q a (inside-reads s t .holds .0 p a m))
 
--- ---- Range
+-- ---- What is left of a set that loses members
 
-pub without-le : (s t : ℕ) → without s t ≤ s
-unfolding without
-without-le s t = omega arith
+-- a part of a set is no greater a number
+pub inside-le : (s t : ℕ) → inside s t ≡ true → s ≤ t
+unfolding inside meet
+inside-le s t part = omega (arith, eqb-true (meet s t) s part, and-le-r s t)
+
+-- a part stays one where both lose the same
+pub inside-without : (s t u : ℕ) → inside s t ≡ true → inside (without s u) (without t u) ≡ true
+inside-without s t u part =
+    inside-reads (without s u) (without t u) .holds .1
+    (λ a m.
+    let both = and-eq-true-iff (member s a) (not (member u a)) .0 (rw member-without at m) in
+    rw member-without
+    (and-eq-true-iff (member t a) (not (member u a)) .1 (inside-reads s t .holds .0 part a (both .0), both .1)))
+
+-- what is left of a set meets another only if the whole did
+pub meets-without : (d s x : ℕ) → meets (without d s) x ≡ true → meets d x ≡ true
+meets-without d s x shared = go (meets d x) refl
+  where
+    go : (b : Bool) → meets d x ≡ b → b ≡ true
+    go true e = refl
+    go false e = sym (meets-inside (without d s) d x (without-inside d s) e) ∙ shared
+
+-- a set that loses nothing is left whole
+pub without-none : (s : ℕ) → without s 0 ≡ s
+without-none s = ext (λ a. simp (member-without, member-empty, and-true))
+
+-- what two losses leave is what both at once leave
+pub without-twice : (s t u : ℕ) → without (without s t) u ≡ without s (union t u)
+without-twice s t u = ext (λ a. simp (member-without, member-union) (both (member s a) (member t a) (member u a)))
+  where
+    both : (x y z : Bool) → (x && not y && not z) ≡ (x && not (y || z))
+    both true true z = refl
+    both true false z = refl
+    both false y z = refl
+
+-- nothing that was lost is left
+pub without-lost : (s t : ℕ) → meets (without s t) t ≡ false
+without-lost s t =
+    meets-reads (without s t) t .fails .1
+    (λ a m. not-true (member t a) (and-right (member s a) (not (member t a)) (rw member-without at m)))
+
+-- sets that share nothing share nothing when they lose
+pub without-apart : (s t x y : ℕ) → meets s t ≡ false → meets (without s x) (without t y) ≡ false
+without-apart s t x y apart =
+    let less = meets-inside (without s x) s t (without-inside s x) apart in
+    meets-comm (without s x) (without t y)
+    ∙ meets-inside (without t y) t (without s x) (without-inside t y) (meets-comm t (without s x) ∙ less)

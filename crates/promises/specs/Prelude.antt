@@ -18,7 +18,7 @@ pub use Rattle.laws.specs.Counts.{count-mono, count-sum}
 unfoldable pub use Rattle.laws.specs.Front.{over}
 pub use Rattle.laws.specs.GoneLaws.{gone-mono, gone-none, gone-same}
 unfoldable pub use Rattle.laws.specs.Lists.{all, count, gone}
-pub use Rattle.laws.specs.SetLaws.{inside-reads, meets-comm, meets-inside, meets-reads, union-empty, without-inside}
+pub use Rattle.laws.specs.SetLaws.{inside-reads, meets-comm, meets-inside, meets-reads, meets-without, union-empty, without-apart, without-inside, without-lost, without-none, without-twice}
 unfoldable pub use Rattle.laws.specs.Sets.{below, inside, meet, meets, union, without}
 pub use Rattle.laws.specs.Sets.{member}
 pub use Rattle.event.specs.Clock.{difference, goneBack, timeSpent}

@@ -1,6 +1,6 @@
 -- The conditions on a live row are those beside what stands before it, its turn's and its resources'; and what code tests
 -- of a row, by unions of sets, is what those conditions say one by one.
-use Rattle.soundness.specs.Prelude.{Bool, Row, _&&_, _<_, _||_, _∙_, _≡_, all, and-assoc, and-false, and-true, ap, arith, below, cond, eqb, eqb-true, false, holds, implies, inside, inside-both, inside-empty, le-leb, leb, live, lt-ltb, ltb, meets, meets-comm, meets-empty, meets-union, ne-eqb, not, or-false, or-true, refl, suc, sym, true, union, union-none, zero, ℕ}
+use Rattle.soundness.specs.Prelude.{Bool, Row, _&&_, _||_, _∙_, _≡_, all, and-assoc, and-false, and-true, ap, arith, below, cond, eqb, eqb-true, false, holds, implies, inside, inside-both, inside-empty, le-leb, leb, live, lt-ltb, ltb, meets, meets-comm, meets-empty, meets-union, ne-eqb, not, or-false, or-true, refl, suc, sym, true, union, union-none, zero, ℕ}
 use Rattle.soundness.specs.Beside.{besideBy, holderBy, rowBy}
 use Rattle.soundness.specs.Conditions.{declaresSome}
 

@@ -1,5 +1,5 @@
 -- The names from outside that this crate's definitions and proofs use, passed on by one module.
-pub use Prim.Native.Nat.{suc, zero, _-_, _<_, _^_, _≤_, ℕ}
+pub use Prim.Native.Nat.{suc, zero, _-_, _^_, _≤_, ℕ}
 pub use mathlib.Core.Bool.{Bool, _&&_, _||_, and-assoc, and-false, and-true, cond, false, not, or-false, or-true, true}
 pub use mathlib.Core.List.{[], _∷_}
 pub use mathlib.Core.Path.{_∙_, _≡_, ap, ap₂, refl, sym}

@@ -1,5 +1,5 @@
 -- What a request gives up is gone as long as it lives: nothing of it is declared or held again, or granted.
-use Rattle.promises.specs.Prelude.{Ask, Bool, GiveUp, List, Row, Table, Tick, _∙_, _≡_, ap, arith, case, cases, false, inside-reads, jobs, meets, meets-inside, meets-reads, member, next, not, refl, rowIn, run, sym, true, without, without-inside, ℕ}
+use Rattle.promises.specs.Prelude.{Ask, Bool, GiveUp, List, Row, Table, Tick, _∙_, _≡_, ap, arith, case, cases, false, inside-reads, jobs, meets, meets-inside, meets-reads, member, next, not, refl, rowIn, run, sym, true, without, without-inside, without-lost, ℕ}
 use Rattle.event.specs.declared.events.Event.{Event}
 use Rattle.promises.specs.Demand.Statement.{GoneForGood}
 use Rattle.promises.specs.History.Words.{Bears, givenUp, ours, taken}
@@ -8,7 +8,6 @@ use Rattle.promises.specs.History.Count.{along-next}
 use Rattle.promises.specs.History.Turn.{declared-run}
 use Rattle.kept.specs.Accepted.{next-accepted, passed}
 use Rattle.kept.specs.GivenUp.{give-up-leaves}
-use Rattle.kept.specs.Sets.{without-lost}
 use Rattle.kept.specs.Sound.Tests.{table-sound}
 use Rattle.kept.specs.Sound.Words.{LiveRow}
 use Rattle.kept.specs.Soundness.{accepted-sound, events-sound}

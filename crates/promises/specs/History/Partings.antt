@@ -1,5 +1,5 @@
 -- How many are in the way of a request, along a history: as many as there were, less those that parted from it.
-use Rattle.promises.specs.Prelude.{Ask, Beat, Bool, Complete, GiveUp, List, Open, Release, Row, Table, [], _&&_, _+_, _<_, _∙_, _∷_, _≡_, about, accepted, and-false, ap, arith, bit, claims, cond, count, count-sum, course, earlier, earlier-turn, eqb, eqb-true, false, givingUp, idle, in-way-set, in-way-settled, inWay, jobs, live-within, meets, meets-comm, next, not, not-earlier, refl, rowIn, run, set, settled, subst, sym, true, without, zero-add, ℕ}
+use Rattle.promises.specs.Prelude.{Ask, Beat, Bool, Complete, GiveUp, List, Open, Release, Row, Table, [], _&&_, _+_, _<_, _∙_, _∷_, _≡_, about, accepted, and-false, ap, arith, bit, claims, cond, count, count-sum, course, earlier, earlier-turn, eqb, eqb-true, false, givingUp, idle, in-way-set, in-way-settled, inWay, jobs, live-within, meets, meets-comm, meets-without, next, not, not-earlier, refl, rowIn, run, set, settled, subst, sym, true, without, without-apart, without-none, zero-add, ℕ}
 use Rattle.event.specs.declared.events.Event.{Event}
 use Rattle.promises.specs.History.Events.{next-either}
 use Rattle.promises.specs.History.Words.{Along, givenUp, givenUpBy, inItsWay, partingBy, partings, partsByOther, partsByOwn, taken, tallyOf}
@@ -7,7 +7,6 @@ use Rattle.promises.specs.History.Count.{along-next}
 use Rattle.promises.specs.History.Turn.{back-run, declared-after, declared-run}
 use Rattle.kept.specs.Accepted.{acts}
 use Rattle.kept.specs.Changes.{alike-quiet}
-use Rattle.kept.specs.Sets.{meets-without, without-apart, without-none}
 use Rattle.kept.specs.Words.{Accepts}
 
 -- of those that pass two tests, each passes a narrower second one too, or parts

@@ -1,6 +1,6 @@
 -- Whose row it is: a row that bears a turn at the end of a history has borne it since that turn was given, and declares what it
 -- did, without what it has given up.
-use Rattle.promises.specs.Prelude.{Ask, Beat, Bool, Complete, GiveUp, List, Open, Release, Row, Table, Tick, [], _<_, _∙_, _∷_, _≡_, about, accepted, ap, arith, cond, course, eqb, eqb-true, false, false≢true, jobs, next, refl, rowIn, run, setOf, subst, sym, true, without, ℕ}
+use Rattle.promises.specs.Prelude.{Ask, Beat, Bool, Complete, GiveUp, List, Open, Release, Row, Table, Tick, [], _<_, _∙_, _∷_, _≡_, about, accepted, ap, arith, cond, course, eqb, eqb-true, false, false≢true, jobs, next, refl, rowIn, run, setOf, subst, sym, true, without, without-none, without-twice, ℕ}
 use Rattle.event.specs.declared.events.Event.{Event}
 use Rattle.promises.specs.History.Events.{next-either}
 use Rattle.promises.specs.History.Words.{Along, givenUp, givenUpBy, givenUpOf, taken}
@@ -8,7 +8,6 @@ use Rattle.promises.specs.History.Count.{along-next}
 use Rattle.kept.specs.Accepted.{next-accepted}
 use Rattle.kept.specs.Changes.{changes, unnamed-keeps}
 use Rattle.kept.specs.GivenUp.{give-up-leaves}
-use Rattle.kept.specs.Sets.{without-none, without-twice}
 use Rattle.kept.specs.Words.{Accepts, Change, began, ended, gave, kept}
 
 module _ {T n : ℕ} (t : Table) (along : Along T n t) (some : 0 < n) (j : ℕ) where
