@@ -159,7 +159,7 @@ impl Out {
     }
 
     #[inline(never)]
-    pub fn wrote(&mut self, number: u64, wrote: &Result<(), u8>) {
+    pub fn wrote(&mut self, number: u64, wrote: &Result<(), u8>, room: &[u8]) -> io::Result<()> {
         self.number(number);
         self.text(b" ");
         match wrote {
@@ -167,6 +167,8 @@ impl Out {
             Ok(()) => self.text(b"wrote"),
         }
         self.text(b"\n");
+        self.list(room);
+        self.make_room()
     }
 
     #[inline(never)]
