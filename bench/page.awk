@@ -15,7 +15,7 @@ file == 4 {
     for (i = 3; i <= 5; i++) replay[replays, i] = $i
 }
 
-file == 5 && $1 == "before" { was[$2, $3] = $4 }
+file == 5 && $1 == "before" { was[$2, $3] = $4; was_called[$3] }
 file == 5 && $1 == "replayed" { replayed[$3, $2] = $4 }
 
 function row(order, size, call, shown) {
@@ -28,25 +28,26 @@ function table(order, i, s) {
     head("Call")
     split("64 8 1", size, " ")
     for (s = 1; s <= 3; s++)
-        for (i = 1; i <= 8; i++) row(order, size[s], calls[i], size[s])
+        for (i = 1; i <= call_count; i++) row(order, size[s], calls[i], size[s])
     row(order, 1, "start", "none")
 }
 
 function growth(i, s, line) {
     print "\n| Call | 1 | 2 | 4 | 8 | 16 | 32 | 64 |"
     print "|---|---|---|---|---|---|---|---|"
-    for (i = 1; i <= 8; i++) {
+    for (i = 1; i <= call_count; i++) {
         line = "| " name_of(calls[i]) " |"
         for (s = 1; s <= 64; s *= 2) line = line cell(calls[i], s)
         print line
     }
 }
 
-# What it took before, and what it takes now.
+# What it took before, if there was such a call, and what it takes now.
 function earlier(i, s, line) {
     print "\n| Call | 1 | 2 | 4 | 8 | 16 | 32 | 64 |"
     print "|---|---|---|---|---|---|---|---|"
-    for (i = 1; i <= 8; i++) {
+    for (i = 1; i <= call_count; i++) {
+        if (!(calls[i] in was_called)) continue
         line = "| " name_of(calls[i]) " |"
         for (s = 1; s <= 64; s *= 2)
             line = line ((s, calls[i]) in was ? " " big(was[s, calls[i]]) " → " big(n["rising", s, calls[i]]) " |" : " |")
@@ -83,10 +84,11 @@ function opening() {
     print "# What the calls cost against a plain program\n"
     print "`bench/run` wrote this page and measured every figure on it in one run. No figure is a pass mark.\n"
     print "Measured: " identity ".\n"
-    printf "%s", "Three programs took the same input and gave the same answers: Norakkeun; `bench/plain`, which is document 01 and "
-    printf "%s", "service files in plain Rust written for speed, with the soundness test in every call; and the same without that "
-    printf "%s", "test. The plain program goes through the live rows once in order of turn and changes the table in place. With the "
-    print "test it was held to the model by `.ci/compare` first, with service files too.\n"
+    printf "%s", "Three programs took the same input and gave the same answers: Norakkeun; `bench/plain`, which is document 01, "
+    printf "%s", "service files and give up (document 02, requests 1 and 2) in plain Rust written for speed, with the soundness test "
+    printf "%s", "in every call; and the same without that test. The plain program goes through the live rows once in order of turn "
+    printf "%s", "and changes the table in place. With the test it was held to the model by `.ci/compare` first, with service files "
+    print "too.\n"
     printf "%s", "Instructions are those of x86-64 under user-mode emulation (QEMU), counted by `bench/count.c`, with copying and "
     printf "%s", "clearing by the C library's vector loops. Every machine counts the same with the same library and compilers. They "
     print "compare programs; they are no times on a drive. Times on x86-64 are in `docs/bench-times.md`."
@@ -98,8 +100,9 @@ function around() {
     printf "%s", "that firmware links and counted from where the call is entered to where it returns, with every copy that it makes; "
     printf "%s", "the copies of the table that the caller makes to hand it in, and of the answer, are the caller's. The plain program "
     printf "%s", "changes the table in place; what is around its calls (reading the case, taking it apart, filling the lent list) is "
-    printf "%s", "taken off as the writing of a record that is refused has it. At 64 live rows the opening has 63. A ratio to fewer "
-    print "than ten instructions is not given."
+    printf "%s", "taken off as the writing of a record that is refused has it. At 64 live rows the opening has 63. It is the first in "
+    printf "%s", "line that completes, and that gives up what the second, if there is one, waits for; either wakes the second, and the "
+    print "completion also the first without a token. A ratio to fewer than ten instructions is not given."
 }
 
 function buffers() {
@@ -145,11 +148,11 @@ END {
     print "\n## How it grows with the live rows\n"
     print "Norakkeun's instructions, and how many times the plain program's they are, turns in order of job."
     growth()
-    print "\nBefore, when every call looked at all rows for each row (commit fe5bd26), and now:"
+    print "\nBefore, when every call looked at all rows for each row and there was no give up (commit fe5bd26), and now:"
     earlier()
     print "\n![Instructions of an ask and of a completion by live rows, before and now](bench.svg)"
     files_part()
     replays_part()
-    print "\nBefore, when the table was tested at each record, and now, once for a block:"
+    print "\nBefore, when the table was tested at each record and no busy recording had a give up, and now, tested once for a block:"
     replays_earlier()
 }

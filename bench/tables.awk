@@ -1,9 +1,10 @@
 # What docs/bench.md and docs/bench-times.md have in common: names, figures and the lines of a table.
 BEGIN {
     FS = "\t"
-    split("beat open ask ask-wait release complete report overdue", calls, " ")
+    call_count = split("beat open ask ask-wait release complete give-up report overdue", calls, " ")
     word["ask"] = "ask, granted"
     word["ask-wait"] = "ask, told to wait"
+    word["give-up"] = "give up"
     word["lively"] = "busy, up to 12 jobs"
     word["crowd"] = "busy, up to 64 jobs"
     word["ask-release"] = "ask, release"

@@ -86,6 +86,8 @@ fn call(name: &str, live: usize, order: &str) -> Option<Call> {
         "ask-wait" => (2, third()?, 4, 0, live),
         "release" => (3, first, 1, 0, live),
         "complete" => (4, first, 0, 64, live),
+        // Of what the second in line, if there is one, has asked for: it is woken.
+        "give-up" => (14, first, 2, 64, live),
         "report" => (5, job_at(order, live - 1), 0, 0, live),
         "overdue" => (6, 0, 0, 64, live),
         "start" => (7, 0, 0, 0, live),
