@@ -1,4 +1,5 @@
--- What an accepted call does, as document 01 words it under "The events"; a refused one changes nothing.
+-- What an accepted call does, as document 01 words it under "The events", and document 02 for give up; a refused one
+-- changes nothing.
 use Prim.Native.Nat.{ℕ, _+_}
 use mathlib.Core.Bool.{cond}
 use mathlib.Core.List.{List, [], _∷_}

@@ -63,7 +63,7 @@ sinceInTime t r = leb (r .since) (t .time)
 abbrev pub sinceByWaiting : Table → Row → Bool
 sinceByWaiting t r = implies (not (waitingIn t r)) (eqb (r .since) 0)
 
--- what a live row meets by itself
+-- what a live row meets by itself, and by whether it has a token
 abbrev pub ownConditions : Table → Row → List Bool
 ownConditions t r =
     turnGiven t r ∷ declaresSome (tokenOf t r) r ∷ declaredInRange t r ∷ heldDeclared r ∷ askedDeclared r ∷ heldNotAsked r ∷ []

@@ -14,7 +14,7 @@ module _ (rows : List Row) (j : ℕ) (x : Row) (below : j < length rows) (n : �
   unfolding inWay
   in-way-set s = count-set (claims n s) rows j x idle below
 
--- when every row keeps what it was opened with
+-- when every row keeps its turn and its declared set
 module _ (f : Row → Row) (keeps : (r : Row) → openingOf (f r) ≡ openingOf r) (rows : List Row) where
   -- so many pass any test that looks at no more
   pub count-kept : (g : Row → Bool) → ((r : Row) → g (openingOf r) ≡ g r) → count g (map f rows) ≡ count g rows

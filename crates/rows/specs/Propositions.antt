@@ -34,6 +34,6 @@ unfoldable pub InTurn : List Row → List ℕ → Type 0
 InTurn rows [] = Unit
 InTurn rows (k ∷ l) = Each (λ j. rowOf rows k .turn .0 ≤ rowOf rows j .turn .0) l × InTurn rows l
 
--- what a row was opened with, which is all that the order looks at: its turn and its declared set
+-- what an opening sets of a row, which is all that the order looks at: its turn and its declared set
 abbrev pub openingOf : Row → Row
 openingOf r = record { turn = r .turn; declared = r .declared; held = 0; asked = 0; since = 0 }

@@ -13,7 +13,7 @@ use Rattle.rows.specs.declared.row.Row.{Row}
 use Rattle.soundness.specs.Conditions.{askedDeclared, counters, declaresSome, heldDeclared, heldNotAsked, idleConditions, ranges}
 use Rattle.soundness.specs.declared.Bounds.{Bounds}
 
--- what a live row meets by itself, with a token or without one
+-- what a live row meets by itself, and by whether it has a token
 abbrev pub ownBy : ℕ → ℕ → Row → Bool → List Bool
 ownBy R last r token =
     leb (r .turn .0) last

@@ -1,4 +1,4 @@
--- Each answer's word; only a completion lists jobs.
+-- Each answer's word; only one that tells how many woke lists jobs.
 use Rattle.lines.specs.Prelude.{arith, needs}
 use Rattle.lines.specs.Lines.{items, wordText}
 use Rattle.lines.specs.Promises.{wordFrom}
