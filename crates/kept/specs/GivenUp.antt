@@ -1,5 +1,5 @@
 -- What a give up leaves, and what is left to a request that has given up all, by name.
-use Rattle.kept.specs.Prelude.{Ask, GiveUp, Release, Row, Table, Tick, _∙_, _≡_, _≤_, accepted, ahead, and-false, ap, arith, case, claims, earlier, eqb-false, false, getD-set-same, givingUp, idle, inside-le, le-ltb, live, live-within, lt-ltb, ltb-true, meets-comm, meets-empty, next, not, not-false, refl, row-settled, rowIn, rowsWith, sound, sweptRow, true, ℕ}
+use Rattle.kept.specs.Prelude.{Ask, GiveUp, Open, Release, Row, Table, Tick, _<_, _∙_, _≡_, _≤_, accepted, ahead, and-false, ap, arith, case, claims, earlier, eqb-false, false, first-is, getD-set-same, givingUp, idle, inside-le, jobs, le-ltb, live, live-within, lt-leb, lt-ltb, ltb-true, meets-comm, meets-empty, next, none, not, not-false, past, refl, row-settled, rowIn, rowsWith, sound, sweptRow, sym, true, true≢false, ℕ}
 use Rattle.event.specs.declared.events.Event.{Event}
 use Rattle.kept.specs.Words.{Accepts, Acts, OnlyCompletes}
 use Rattle.kept.specs.Accepted.{acts, next-accepted, passed, was-sound}
@@ -44,13 +44,13 @@ give-up-leaves n t j tick s ok =
 
 -- a request that declares nothing is in nobody's way
 pub emptied-in-nobodys-way : (r : Row) → r .declared ≡ 0 → (m x : ℕ) → claims m x r ≡ false
-emptied-in-nobodys-way r none m x = rw (none, meets-comm 0 x, meets-empty x) (and-false (earlier m r))
+emptied-in-nobodys-way r nothing m x = rw (nothing, meets-comm 0 x, meets-empty x) (and-false (earlier m r))
 
 -- to a live request that declares nothing only its completion is left
 pub emptied-only-completes :
-    (t : Table) (j : ℕ) → sound t ≡ true → live (rowIn t j) ≡ true → rowIn t j .declared ≡ 0 → OnlyCompletes t j
+    (t : Table) (j : ℕ) → j < jobs → sound t ≡ true → live (rowIn t j) ≡ true → rowIn t j .declared ≡ 0 → OnlyCompletes t j
 unfolding case
-emptied-only-completes t j is-sound lives none =
+emptied-only-completes t j below is-sound lives nothing =
     let r = rowIn t j in
     let p = table-sound t is-sound .rows j .lives (ltb-true 0 (r .turn .0) lives) in
     let asked = inside-le (r .asked) (r .declared) (p .asked-declared) in
@@ -58,6 +58,7 @@ emptied-only-completes t j is-sound lives none =
     let lacks : ¬ (t .tokens ≤ ahead (t .rows) (r .turn .0)) = λ late. omega (arith, p .declares late) in
     let has = lt-ltb (ahead (t .rows) (r .turn .0)) (t .tokens) (omega arith) in
     record {
+      open-again = λ n tick s ok. true≢false (sym lives ∙ passed n t (Open j tick s) ok 7);
       ask = λ n tick s ok.
           let off = passed n t (Ask j tick s) ok in
           omega (arith, eqb-false s 0 (off 11), inside-le s (r .declared) (not-false _ (off 13)));
@@ -67,5 +68,11 @@ emptied-only-completes t j is-sound lives none =
       give-up = λ n tick s ok.
           let off = passed n t (GiveUp j tick s) ok in
           omega (arith, eqb-false s 0 (off 11), inside-le s (r .declared) (not-false _ (off 13)));
-      complete = λ n tick. (ap not lives, ap not has, le-ltb 0 (r .asked) (omega arith));
+      complete = λ n tick long forth within.
+          sym
+          (first-is
+          (past (le-ltb n jobs long)
+          (past (ap not is-sound)
+          (past (lt-leb jobs j below)
+          (past forth (past within (past (ap not lives) (past (ap not has) (past (le-ltb 0 (r .asked) (omega arith)) none)))))))));
     }

@@ -7,17 +7,17 @@ pub use mathlib.Core.Path.{_∙_, _≡_, ap, refl, subst, sym}
 pub use native.Mathlib.Decide.{decLe, decLt, ℕ-discrete}
 pub use native.Mathlib.Nat.{le-antisymm, le-of-eq, le-refl, lt-irrefl, not-suc-le-zero}
 pub use native.Mathlib.Omega.{arith}
-pub use borrow.Author.Tests.{eq-eqb, eqb-false, eqb-true, le-leb, le-ltb, leb-false, leb-true, lt-ltb, ltb-false, ltb-true, not-false, not-true}
+pub use borrow.Author.Tests.{eq-eqb, eqb-false, eqb-true, le-leb, le-ltb, leb-false, leb-true, lt-leb, lt-ltb, ltb-false, ltb-true, not-false, not-true}
 pub use lib.Arith.{le-zero}
 pub use lib.Dec.{eqb, leb, ltb}
 pub use lib.ListN.{getD, length, length-set, replicate, set}
 pub use lib.Seq.{getD-set-other, getD-set-same, set-out}
 pub use Rattle.laws.specs.BoolLaws.{and-left, and-right, denied, denying, either, implied, implying}
 pub use Rattle.laws.specs.Bools.{bit}
-pub use Rattle.laws.specs.CaseLaws.{acceptance-tells, clear, refusal-tells}
+pub use Rattle.laws.specs.CaseLaws.{acceptance-tells, clear, refusal-tells, first-is}
 pub use Rattle.laws.specs.Cases.{Case, fine, keepUnless, positive, refused}
 unfoldable pub use Rattle.laws.specs.Cases.{case, first, leaves, outcome}
-pub use Rattle.laws.specs.Chains.{_and_, none}
+pub use Rattle.laws.specs.Chains.{_and_, none, past}
 pub use Rattle.laws.specs.Counts.{all-each, count-at, count-mono, count-same, count-some, count-sum, each-all}
 pub use Rattle.laws.specs.GoneLaws.{gone-balance, gone-none}
 pub use Rattle.laws.specs.HoldLaws.{hold, nth}

@@ -1,10 +1,11 @@
 -- What is said of accepted events and of rows while the table around them moves on.
 use Prim.Native.Nat.{ℕ, _+_, _<_, _≤_}
 use mathlib.Core.Path.{_≡_}
+use Rattle.event.specs.Clock.{goneBack, timeSpent}
 use Rattle.event.specs.declared.clock.Tick.{Tick}
 use Rattle.event.specs.declared.events.Event.{Event}
-use Rattle.event.specs.declared.events.Event.the-variants.{Ask, Complete, GiveUp, Release}
-use Rattle.laws.specs.Cases.{case, first, refused}
+use Rattle.event.specs.declared.events.Event.the-variants.{Ask, Complete, GiveUp, Open, Release}
+use Rattle.laws.specs.Cases.{first, refused}
 use Rattle.event.specs.Limits.{jobs}
 use Rattle.rows.specs.Order.{ahead, idle, inWay, waiting}
 use Rattle.rows.specs.Propositions.{openingOf}
@@ -102,16 +103,16 @@ pub record NeverUnsound (t : Table) : Type 0 where
 
 -- ---- A request that has given up all
 
--- job j's request can neither ask nor release nor give up; it is live, has its token and has no ask that waits, so it can complete
+-- job j's request can neither ask nor release nor give up, and its job cannot open another; it can complete, at any tick that
+-- the clock takes, with a lent list that is long enough
 pub record OnlyCompletes (t : Table) (j : ℕ) : Type 0 where
+  pub open-again : (n : ℕ) (tick : Tick) (s : ℕ) → ¬ Accepts n t (Open j tick s)
   pub ask : (n : ℕ) (tick : Tick) (s : ℕ) → ¬ Accepts n t (Ask j tick s)
   pub release : (n : ℕ) (tick : Tick) (s : ℕ) → ¬ Accepts n t (Release j tick s)
   pub give-up : (n : ℕ) (tick : Tick) (s : ℕ) → ¬ Accepts n t (GiveUp j tick s)
   pub complete :
-      (n : ℕ) (tick : Tick) →
-      (case 8 (cases n t (Complete j tick)) ≡ false)
-      × (case 9 (cases n t (Complete j tick)) ≡ false)
-      × (case 10 (cases n t (Complete j tick)) ≡ false)
+      (n : ℕ) (tick : Tick) → jobs ≤ n → goneBack (t .time) (tick .0) ≡ false → timeSpent (t .time) (tick .0) ≡ false →
+      Accepts n t (Complete j tick)
 
 -- ---- What becomes of the turn and the declared set of the row of a job
 

@@ -29,9 +29,9 @@ gives-up-all = GiveUp 2 (at 10) 18
 abbrev others-part : List Event
 others-part = until-both-wait ++ gives-up-all ∷ []
 
--- 4 gives up {2} and may not ask for it again; 3 and 2, which have parted, complete
+-- 2, which has parted, completes; 4 gives up {2} and may not ask for it again; 3, from which it has parted so, completes
 abbrev own-parts : List Event
-own-parts = GiveUp 4 (at 11) 4 ∷ Ask 4 (at 12) 6 ∷ Complete 3 (at 13) ∷ Complete 2 (at 14) ∷ []
+own-parts = Complete 2 (at 11) ∷ GiveUp 4 (at 12) 4 ∷ Ask 4 (at 13) 6 ∷ Complete 3 (at 14) ∷ []
 
 -- ---- Its tables, written out
 
@@ -93,11 +93,12 @@ pub record Shown : Type 0 where
       ∷ []
   pub two : partings 4 three-in-way others-part ≡ 2
   pub wakes : lists (run three-in-way until-both-wait) gives-up-all ≡ 4 ∷ 0 ∷ []
-  -- its own give up parts it from 3; what it gave up is gone, and the completions of 3 and 2 lower nothing
-  pub told-own : answers one-in-way own-parts ≡ fine (saysWoke 0) ∷ refused 13 ∷ fine (saysWoke 0) ∷ fine (saysWoke 0) ∷ []
+  -- 2 has parted, and its completion leaves the number at one; its own give up parts it from 3; what it gave up is gone, and
+  -- the completion of 3 lowers nothing
+  pub told-own : answers one-in-way own-parts ≡ fine (saysWoke 0) ∷ fine (saysWoke 0) ∷ refused 13 ∷ fine (saysWoke 0) ∷ []
   pub falls-by-own :
       reports one-in-way own-parts
-      ≡ reporting 4 true false 2 0 ∷ reporting 4 true false 2 0 ∷ reporting 4 true false 1 0 ∷ reporting 4 true false 0 0 ∷ []
+      ≡ reporting 4 true false 1 1 ∷ reporting 4 true false 1 0 ∷ reporting 4 true false 1 0 ∷ reporting 4 true false 0 0 ∷ []
   pub one : partings 4 one-in-way own-parts ≡ 1
   -- over the whole
   pub all-three : partings 4 three-in-way (others-part ++ own-parts) ≡ 3
