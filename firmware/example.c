@@ -15,7 +15,7 @@ enum { CURRENT_CONTROL = 3, BRAKE = 7, DISPLAY = 12, TELEMETRY = 20 };
 enum { ENCODER_BUS = 1, GATE_DRIVER = 2, PARAMETER_MEMORY = 4 }; /* a set is their sum */
 enum { TOKENS = 2, RESOURCES = 3, LIMIT_MS = 50 };
 
-/* Five events, which change the table, and two questions, which do not; and a spare drive takes over. */
+/* The events of this night, which change the table, and two questions, which do not; and a spare drive takes over. */
 typedef enum { BEAT, OPEN, ASK, RELEASE, COMPLETE, REPORT, OVERDUE, TAKE_OVER } message_kind;
 
 /* What a job or a timer says to the arbiter. */

@@ -141,8 +141,9 @@ norakkeun_told norakkeun_release(norakkeun_table table, uint32_t job, norakkeun_
 norakkeun_told norakkeun_complete(norakkeun_table table, uint32_t job, norakkeun_tick tick, uint8_t *woken,
                                   size_t length);
 
-/* The members leave the held and the declared set for good: they are nobody's from here on and cannot be asked for again.
- * The request keeps its turn and its token. The woken jobs stand at the front of the lent list as with complete. */
+/* The members leave this request's held and declared sets for good; it cannot ask for them again, and keeps its turn and its
+ * token. Every set that waits and of which no earlier request declares a member any more is granted; the woken jobs stand at
+ * the front of the lent list as with complete. */
 norakkeun_told norakkeun_give_up(norakkeun_table table, uint32_t job, norakkeun_tick tick, uint64_t set, uint8_t *woken,
                                  size_t length);
 

@@ -183,8 +183,8 @@ impl History {
         for (place, live) in self.line.iter().enumerate() {
             let told = report(&arbiter, u32::from(live.job));
             let token = live.until_token == 0;
-            let asks = |other: &Live| other.declares & live.asked != 0;
-            let waiting = !token || self.line[..place].iter().any(asks);
+            let declares_asked = |other: &Live| other.declares & live.asked != 0;
+            let waiting = !token || self.line[..place].iter().any(declares_asked);
             let in_the_way = live.in_the_way().unwrap_or(told.in_the_way);
             assert_eq!(
                 (told.token, told.waiting, told.ahead, told.in_the_way),

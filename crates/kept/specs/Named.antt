@@ -26,7 +26,7 @@ module _ (n : ℕ) (t : Table) (j : ℕ) (tick : Tick) (s : ℕ) (ok : Accepts n
       Decided (t .rows) s (rowIn t j) (rowIn (next n t (Ask j tick s)) j .held) (rowIn (next n t (Ask j tick s)) j .asked)
   ask-whole = rw (next-accepted n t (Ask j tick s) ok) (asked .decided)
 
-  -- a resource that an older live request has declared is not handed out, free or not: the ask waits, and nothing more is held
+  -- a resource that an older live request still declares is not handed out, free or not: the ask waits, and nothing more is held
   pub older-goes-first :
       InTheWay (t .rows) (rowIn t j .turn .0) s →
       (answer n t (Ask j tick s) ≡ fine Answers.saysWait) × (rowIn (next n t (Ask j tick s)) j .held ≡ rowIn t j .held)

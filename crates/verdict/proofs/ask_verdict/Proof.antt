@@ -15,7 +15,7 @@ returns-2 c =
     let a = c .before .before .before .before .before .args in
     by-second (eventCases (a .s) (calling (a .job) (a .tick .0) (a .set)) GiveUp) (askCases (a .s .row) (a .set)) _
     (c .before .before .before .before .give-up-verdict .ensures) (c .before .before .declared .given .1) refl
-    (c .ask-set-verdict .ensures)
+    (search needs)
 
 pub ask-verdict-spec : {M : Type 1} → statement M
 ask-verdict-spec =
