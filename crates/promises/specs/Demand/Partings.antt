@@ -100,8 +100,6 @@ pub record Shown : Type 0 where
       reports one-in-way own-parts
       ≡ reporting 4 true false 1 1 ∷ reporting 4 true false 1 0 ∷ reporting 4 true false 1 0 ∷ reporting 4 true false 0 0 ∷ []
   pub one : partings 4 one-in-way own-parts ≡ 1
-  -- over the whole
-  pub all-three : partings 4 three-in-way (others-part ++ own-parts) ≡ 3
 
 pub shown : Shown
 unfolding answers reports tallyOf answer report outcome course next leaves first sound all distinct count ahead inWay below inside meet meets settled union without woken keep lined under place
@@ -115,5 +113,4 @@ shown =
       told-own = refl;
       falls-by-own = refl;
       one = refl;
-      all-three = refl;
     }
