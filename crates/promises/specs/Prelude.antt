@@ -5,18 +5,18 @@ pub use mathlib.Core.List.{List, [], _++_, _∷_, map, map-map}
 pub use mathlib.Core.Path.{_∙_, _≡_, ap, ap₂, fun-ext, refl, subst, sym}
 pub use native.Mathlib.Nat.{le-antisymm, lt-irrefl, zero-add}
 pub use native.Mathlib.Omega.{arith}
-pub use borrow.Author.Tests.{eqb-false, eqb-true, le-leb, le-ltb, leb-true, lt-ltb, ltb-false, ltb-true}
+pub use borrow.Author.Tests.{eq-eqb, eqb-false, eqb-true, le-leb, le-ltb, leb-true, lt-ltb, ltb-false, ltb-true, ne-eqb, not-true}
 pub use lib.Dec.{eqb, leb, ltb}
 pub use lib.ListN.{List·getD-map, getD, length, length-map, length-replicate, replicate, set}
 pub use lib.Seq.{ext-getD, getD-set-same}
-pub use Rattle.laws.specs.BoolLaws.{and-left, either}
+pub use Rattle.laws.specs.BoolLaws.{and-left, and-right, either}
 pub use Rattle.laws.specs.Bools.{bit}
 pub use Rattle.laws.specs.CaseLaws.{acceptance-tells, first-front}
 pub use Rattle.laws.specs.Cases.{Case, Outcome, fine, keepUnless, refused, unless, when}
 unfoldable pub use Rattle.laws.specs.Cases.{case, first, leaves, outcome}
 pub use Rattle.laws.specs.Counts.{count-mono, count-sum}
 unfoldable pub use Rattle.laws.specs.Front.{over}
-pub use Rattle.laws.specs.GoneLaws.{gone-mono, gone-none, gone-same}
+pub use Rattle.laws.specs.GoneLaws.{gone-none}
 unfoldable pub use Rattle.laws.specs.Lists.{all, count, gone}
 pub use Rattle.laws.specs.SetLaws.{inside-reads, meets-comm, meets-inside, meets-reads, meets-without, union-empty, without-apart, without-inside, without-lost, without-none, without-twice}
 unfoldable pub use Rattle.laws.specs.Sets.{below, inside, meet, meets, union, without}
@@ -41,9 +41,10 @@ pub use Rattle.rows.specs.OrderLaws.{ahead-set, in-way-set}
 unfoldable pub use Rattle.rows.specs.Propositions.{InTurn}
 pub use Rattle.rows.specs.Sweep.{grantedRow, restedRow, sweptRow, woke}
 unfoldable pub use Rattle.rows.specs.Sweep.{settled, woken}
-pub use Rattle.rows.specs.SweepLaws.{granted-keeps, in-way-settled, swept-idle, swept-keeps}
+pub use Rattle.rows.specs.SweepLaws.{ahead-settled, granted-keeps, in-way-settled, swept-idle, swept-keeps, turn-settled}
 pub use Rattle.rows.specs.Turns.{earlier-turn, live-within, not-earlier, turn-earlier, waiting-reads}
 pub use Rattle.rows.specs.declared.row.Row.{Row}
+pub use Rattle.rows.specs.declared.row.Turn.{Turn}
 pub use Rattle.arbiter.specs.Answers.{Said, saysDone, saysGranted, saysToken, saysWait, saysWoke}
 pub use Rattle.arbiter.specs.Meaning.{accepted, lastAfter, late, moved, openedRow, reported, rowAfter, rowsAfter, rowsWith, run, said, timeAt, wakes}
 unfoldable pub use Rattle.arbiter.specs.Meaning.{answer, course, listed, next, overdue, report, startAnswer, startTable}

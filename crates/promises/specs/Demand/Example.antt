@@ -1,10 +1,10 @@
 -- One history, computed: it meets every hypothesis of demand 3, with more than T-1 before the opening, a set that waits,
 -- three before it of whom two are in its way, a completion that wakes two, and refused events and a later request between.
-use Rattle.promises.specs.Prelude.{Ask, Beat, Bool, Complete, List, Open, Outcome, Report, Row, Said, Table, Tick, [], _++_, _-_, _∙_, _∷_, _≡_, ahead, all, answer, ap, below, claims, count, course, distinct, false, fine, first, gone, idle, inWay, inside, jobs, keep, leaves, length, lined, meet, meets, next, outcome, place, refl, refused, replicate, report, rowIn, run, saysWait, saysWoke, settled, sound, startAnswer, startTable, sym, true, under, union, woken, ℕ}
+use Rattle.promises.specs.Prelude.{Ask, Beat, Bool, Complete, List, Open, Outcome, Report, Row, Said, Table, Tick, [], _++_, _-_, _∙_, _∷_, _≡_, ahead, all, answer, ap, below, count, course, distinct, false, fine, first, idle, inWay, inside, jobs, keep, leaves, length, lined, live, meet, meets, next, outcome, place, refl, refused, replicate, report, rowIn, run, saysWait, saysWoke, settled, sound, startAnswer, startTable, sym, true, under, union, woken, ℕ}
 use Rattle.event.specs.declared.events.Event.{Event}
 use Rattle.promises.specs.Demand.Statement.{Demand3, Supposed, afterOpening, n, now, p}
 use Rattle.promises.specs.Demand.Holds.{demand3}
-use Rattle.promises.specs.History.Words.{leavings, lists, tallyOf, Arbiter, ours}
+use Rattle.promises.specs.History.Words.{completions, lists, partings, tallyOf, Arbiter, ours}
 
 -- the tick of that number
 abbrev pub at : ℕ → Tick
@@ -118,24 +118,26 @@ pub record Shown : Type 0 where
   -- it is opened behind five; refused events count for nothing, and the second completion brings the token
   pub behind : this p ≡ 5
   pub told-until : answers all-open until ≡ refused 9 ∷ refused 9 ∷ fine (saysWoke 1) ∷ fine (saysWoke 1) ∷ []
-  -- three are then before it, two of them in the way; one of these leaves, and the set waits on
+  pub completed : completions live all-open until ≡ 2
+  -- three are then before it, two of them in the way; one of these completes, and the set waits on
   pub before : ahead (token-come .rows) 6 ≡ 3
   pub way : inWay (token-come .rows) 6 37 ≡ 2
   pub told-since : answers token-come since ≡ refused 5 ∷ fine saysWait ∷ fine saysWait ∷ fine (saysWoke 1) ∷ []
-  pub left : leavings (claims 6 37) token-come since ≡ 1
-  -- when the other leaves too, it is listed
+  pub parted : partings 6 token-come since ≡ 1
+  -- when the other completes too, it is listed
   pub wakes : lists set-waits (Complete 2 (at 7)) ≡ 3 ∷ 6 ∷ []
 
 pub shown : Shown
-unfolding answers tallyOf gone answer outcome startTable course next leaves first sound all distinct count ahead inWay below inside meet meets settled union woken keep lined under place
+unfolding answers tallyOf answer outcome startTable course next leaves first sound all distinct count ahead inWay below inside meet meets settled union woken keep lined under place
 shown =
     record {
       behind = refl;
       told-until = refl;
+      completed = refl;
       before = refl;
       way = refl;
       told-since = refl;
-      left = refl;
+      parted = refl;
       wakes = refl;
     }
 

@@ -1,5 +1,5 @@
 -- Demand 3 holds of every history.
-use Rattle.promises.specs.Prelude.{Ask, Bool, GiveUp, List, Open, Report, Table, Tick, _+_, _-_, _∙_, _≡_, _≤_, acceptance-tells, ahead, ap, arith, bit, cond, count, earlier, false, fine, idle, inWay, jobs, leb, length-replicate, live, ltb, refl, report, reportCases, reported, rowIn, run, saysDone, saysToken, saysWait, startAnswer, startTable, subst, sym, token, true, without, ℕ}
+use Rattle.promises.specs.Prelude.{Ask, Bool, GiveUp, List, Open, Report, Table, Tick, _&&_, _+_, _-_, _∙_, _≡_, _≤_, acceptance-tells, ahead, ap, arith, bit, cond, count, earlier, earlier-turn, eqb, false, fine, idle, inWay, jobs, leb, length-replicate, live, ltb, meets, ne-eqb, not, refl, report, reportCases, reported, rowIn, run, saysDone, saysToken, saysWait, startAnswer, startTable, subst, sym, token, true, without, ℕ}
 use Rattle.event.specs.declared.events.Event.{Event}
 use Rattle.promises.specs.Demand.Statement.{Demand3, HasParted, Supposed, afterOpening, before, n, now}
 use Rattle.promises.specs.Demand.GivenUp.{gone-for-good}
@@ -7,13 +7,13 @@ use Rattle.promises.specs.Demand.Others.{run-heeded, tally-heeded, unmov
 use Rattle.promises.specs.Demand.Sets.{ask-granted, ask-has-token, ask-says}
 use Rattle.promises.specs.Demand.Token.{ahead-opened, all-before, along-opened, below-at-most, declared-opened, token-by-all, token-by-earlier, token-told}
 use Rattle.promises.specs.History.Events.{accepts}
-use Rattle.promises.specs.History.Words.{Along, Bears, givenUp, inItsWay, leaving, leavings, ours, partingBy, partings}
+use Rattle.promises.specs.History.Words.{Along, Bears, completingBy, completions, givenUp, inItsWay, ours, partingBy, partings, partsByOther, partsByOwn}
 use Rattle.promises.specs.History.Count.{along-run}
-use Rattle.promises.specs.History.Partings.{parted-run, stays-parted}
+use Rattle.promises.specs.History.Partings.{parted-run, parted-then, stays-parted}
 use Rattle.promises.specs.History.Turn.{declared-run}
 use Rattle.kept.specs.Soundness.{start-fresh, start-ranges}
 use Rattle.kept.specs.Words.{Accepts}
-use Rattle.kept.specs.Accepted.{answer-accepted}
+use Rattle.kept.specs.Accepted.{answer-accepted, next-accepted}
 use Rattle.kept.specs.Sound.Tests.{ranges-in}
 
 -- ---- The start
@@ -26,6 +26,20 @@ module _ (T R limit : ℕ) (started : startAnswer T R limit ≡ fine saysDone) w
   along-start begin =
       subst (Along T 0) (sym (start-fresh T R limit started begin))
       (record { wide = length-replicate jobs idle; tokens = refl; given = omega arith })
+
+-- ---- Who has parted
+
+-- another job's request that is out of the way counts for nothing by whatever either does
+has-parted : (t : Table) (j k : ℕ) → eqb k j ≡ false → inItsWay t j (rowIn t k) ≡ false → HasParted j k t
+has-parted t j k other out =
+    record {
+      out = out;
+      completes = λ at. ap bit out;
+      gives-up = λ at x.
+          ap (λ (b : Bool). cond b (count (partsByOwn t j x) (t .rows)) (bit (partsByOther t j x (rowIn t k)))) other
+          ∙ ap (λ (b : Bool). bit (b && not (meets (without (rowIn t k .declared) x) (rowIn t j .declared)))) out;
+      own = λ x. ap (λ (b : Bool). b && not (meets (rowIn t k .declared) (without (rowIn t j .declared) x))) out;
+    }
 
 -- ---- The theorem
 
@@ -86,17 +100,20 @@ module _ (T R begin limit : ℕ) (past : List Event) (j : ℕ) (tick : Tick) (s 
       rowIn (run table since) k .turn .0 ≡ rowIn table k .turn .0 → rowIn (run table since) j .turn .0 ≡ turn →
       HasParted j k (run table since)
   parted-once k since before parted same still =
-      let out = stays-parted table (bears .along) (bears .some) j k since still before same parted in
-      record { out = out; completes = λ at. ap bit out }
+      let end = run table since in
+      let lower = earlier-turn turn (rowIn table k) before .1 in
+      has-parted end j k
+      (ne-eqb k j (λ q. omega (arith, ap (λ (i : ℕ). rowIn end i .turn .0) q)))
+      (stays-parted table (bears .along) (bears .some) j k since still before same parted)
 
-  token-comes : token T (table .rows) turn ≡ leb (count live (first-table .rows) - (T - 1)) (leavings live opened-table later)
+  token-comes : token T (table .rows) turn ≡ leb (count live (first-table .rows) - (T - 1)) (completions live opened-table later)
   token-comes =
       token-by-all some opened-table along later
-      ∙ ap (λ (p : ℕ). leb (p - (T - 1)) (leavings live opened-table later)) behind
+      ∙ ap (λ (p : ℕ). leb (p - (T - 1)) (completions live opened-table later)) behind
 
   token-reported :
       (r : Report) → report table j ≡ fine r →
-      r .token ≡ leb (count live (first-table .rows) - (T - 1)) (leavings live opened-table later)
+      r .token ≡ leb (count live (first-table .rows) - (T - 1)) (completions live opened-table later)
   unfolding report
   token-reported r q =
       let is : reported table (rowIn table j) ≡ r =
@@ -122,14 +139,17 @@ module _ (T R begin limit : ℕ) (past : List Event) (j : ℕ) (tick : Tick) (s 
         still-declares = still-declares;
         way-bounded = way-bounded T (table .rows) turn (rowIn table j .declared);
         way-reported = way-reported;
+        parted-then = λ k e took parts.
+            let ok = accepts table e took in
+            rw (next-accepted jobs table e ok) (parted-then table (bears .along) (bears .some) j k parts ok);
         parted-once = parted-once;
         given-up-for-good = λ at x h since still. gone-for-good bears at x (accepts table (GiveUp j at x) h) since still;
         token-by-earlier =
             token-by-earlier some opened-table along later
-            ∙ ap (λ (p : ℕ). leb (p - (T - 1)) (leavings (earlier turn) opened-table later)) behind;
+            ∙ ap (λ (p : ℕ). leb (p - (T - 1)) (completions (earlier turn) opened-table later)) behind;
         later-unseen = unmoved table (bears .along);
         refused-before = run-heeded (startTable T R begin limit) past;
         refused-since = run-heeded opened-table later;
-        refused-uncounted = λ f. tally-heeded (leaving f) opened-table later;
+        refused-uncounted = λ f. tally-heeded (completingBy f) opened-table later;
         refused-unparted = tally-heeded (λ t. partingBy t j) table;
       }

@@ -6,7 +6,7 @@ use Rattle.promises.specs.Demand.Statement.{AskedSet, Has}
 use Rattle.promises.specs.History.Words.{lists, Along, Bears, ours}
 use Rattle.promises.specs.History.Events.{next-either}
 use Rattle.kept.specs.Changes.{ahead-accepted, alike-quiet}
-use Rattle.promises.specs.History.Count.{along-accepted, along-next, way-run}
+use Rattle.promises.specs.History.Count.{along-accepted, along-next, way-falls}
 use Rattle.promises.specs.History.Row.{bears-after, lives, sets-after, waiting-is}
 use Rattle.promises.specs.History.Woken.{listed-after, unnamed}
 use Rattle.kept.specs.Words.{Accepts}
@@ -107,7 +107,7 @@ blocked-back :
     {T n : ℕ} (t : Table) → Along T n t → (x : ℕ) (es : List Event) → blocked (run t es .rows) n x ≡ true →
     blocked (t .rows) n x ≡ true
 blocked-back {n = n} t along x es q =
-    lt-ltb 0 (inWay (t .rows) n x) (omega (arith, way-run t along es x, ltb-true 0 (inWay (run t es .rows) n x) q))
+    lt-ltb 0 (inWay (t .rows) n x) (omega (arith, way-falls t along x es, ltb-true 0 (inWay (run t es .rows) n x) q))
 
 waits-run :
     {T j n x h : ℕ} → 0 < x → {t : Table} → Waits T j n x h t → (es : List Event) → blocked (run t es .rows) n x ≡ true →

@@ -20,7 +20,7 @@ use Rattle.arbiter.specs.declared.table.Table.{Table}
 use Rattle.event.specs.Events.{names}
 use Rattle.event.specs.Limits.{jobs}
 use Rattle.arbiter.specs.Refusals.{cases}
-use Rattle.promises.specs.History.Words.{Arbiter, givenUpOf, heededBy, inItsWay, leavingsOf, partingBy, partingsOf, takes}
+use Rattle.promises.specs.History.Words.{Arbiter, Parts, completionsOf, givenUpOf, heededBy, inItsWay, partingBy, partingsOf, partsByOwn, takes}
 use Rattle.arbiter.specs.Sound.{rowIn}
 
 -- job j holds the set h and asks for the set a
@@ -65,10 +65,12 @@ pub record GoneForGood (a : Arbiter) (j x : ℕ) (t : Table) : Type 0 where
   pub not-declared : (at : Tick) (y : ℕ) → meets y x ≡ true → case 13 (cases jobs t (Ask j at y)) ≡ true
   pub refused : (at : Tick) (y : ℕ) → meets y x ≡ true → takes a t (Ask j at y) ≡ false
 
--- job k's request is out of the way of job j's, and none parts by its completion
+-- job k's request is out of the way of job j's, and no event of either parts them once more
 pub record HasParted (j k : ℕ) (t : Table) : Type 0 where
   pub out : inItsWay t j (rowIn t k) ≡ false
   pub completes : (at : Tick) → partingBy t j (Complete k at) ≡ 0
+  pub gives-up : (at : Tick) (x : ℕ) → partingBy t j (GiveUp k at x) ≡ 0
+  pub own : (x : ℕ) → partsByOwn t j x (rowIn t k) ≡ false
 
 -- an arbiter; a start with T tokens, R resources, a tick and a limit; any events; an opening by job j; any events since
 module _ (a : Arbiter) (T R begin limit : ℕ) (past : List Event) (j : ℕ) (tick : Tick) (s : ℕ) (later : List Event) where
@@ -104,9 +106,9 @@ module _ (a : Arbiter) (T R begin limit : ℕ) (past : List Event) (j : ℕ) (ti
     -- the token: at once if at most T-1 stand before it, else with the completion that leaves so few;
     -- that event lists the job as woken, once, and none before it does
     pub opening-says : a .answer before (Open j tick s) ≡ fine (cond (leb p (T - 1)) saysToken saysWait)
-    pub token-comes : token T (now .rows) n ≡ leb (p - (T - 1)) (leavingsOf a live afterOpening later)
+    pub token-comes : token T (now .rows) n ≡ leb (p - (T - 1)) (completionsOf a live afterOpening later)
     pub token-reported :
-        (r : Report) → a .report now j ≡ fine r → r .token ≡ leb (p - (T - 1)) (leavingsOf a live afterOpening later)
+        (r : Report) → a .report now j ≡ fine r → r .token ≡ leb (p - (T - 1)) (completionsOf a live afterOpening later)
     pub token-listed :
         (e : Event) → token T (now .rows) n ≡ false →
         count (eqb j) (a .lists now e) ≡ bit (token T (a .next now e .rows) n)
@@ -126,7 +128,10 @@ module _ (a : Arbiter) (T R begin limit : ℕ) (past : List Event) (j : ℕ) (ti
     pub way-reported :
         (since : List Event) (r : Report) → a .report (course (a .next) now since) j ≡ fine r → r .turn .0 ≡ n →
         r .«in_way» + partingsOf a j now since ≡ inWay (now .rows) n (rowIn now j .declared)
-    -- an earlier-opened request that is not in its way never comes into it, so its completion lowers the number no further
+    -- whoever parts from it by an accepted event is out of its way with that event
+    pub parted-then :
+        (k : ℕ) (e : Event) → takes a now e ≡ true → Parts now j k e → inItsWay (a .next now e) j (rowIn (a .next now e) k) ≡ false
+    -- an earlier-opened request that is not in its way never comes into it, so no event of either lowers the number by it
     pub parted-once :
         (k : ℕ) (since : List Event) → earlier n (rowIn now k) ≡ true → inItsWay now j (rowIn now k) ≡ false →
         rowIn (course (a .next) now since) k .turn .0 ≡ rowIn now k .turn .0 → rowIn (course (a .next) now since) j .turn .0 ≡ n →
@@ -137,9 +142,10 @@ module _ (a : Arbiter) (T R begin limit : ℕ) (past : List Event) (j : ℕ) (ti
         rowIn (course (a .next) (a .next now (GiveUp j at x)) since) j .turn .0 ≡ n →
         GoneForGood a j x (course (a .next) (a .next now (GiveUp j at x)) since)
     -- no latecomer and no refused event has any part in it
-    pub token-by-earlier : token T (now .rows) n ≡ leb (p - (T - 1)) (leavingsOf a (earlier n) afterOpening later)
+    pub token-by-earlier : token T (now .rows) n ≡ leb (p - (T - 1)) (completionsOf a (earlier n) afterOpening later)
     pub later-unseen : (e : Event) → Beside n now e → Unmoved a n now e
     pub refused-before : course (a .next) (startTable T R begin limit) (heededBy a (startTable T R begin limit) past) ≡ before
     pub refused-since : course (a .next) afterOpening (heededBy a afterOpening later) ≡ now
-    pub refused-uncounted : (f : Row → Bool) → leavingsOf a f afterOpening (heededBy a afterOpening later) ≡ leavingsOf a f afterOpening later
+    pub refused-uncounted :
+        (f : Row → Bool) → completionsOf a f afterOpening (heededBy a afterOpening later) ≡ completionsOf a f afterOpening later
     pub refused-unparted : (since : List Event) → partingsOf a j now (heededBy a now since) ≡ partingsOf a j now since

@@ -1,14 +1,14 @@
 -- The token of a request: it is opened with all live requests before it, and as many must complete as are too many.
-use Rattle.promises.specs.Prelude.{Bool, List, Open, Row, Table, Tick, [], _&&_, _+_, _-_, _<_, _||_, _∙_, _∷_, _≡_, _≤_, accepted, ahead, ahead-mono, ahead-set, and-left, and-true, ap, ap₂, arith, bit, blocked, cond, count, count-mono, course, earlier, either, eqb, false, getD-set-same, gone, gone-mono, gone-same, idle, jobs, le-antisymm, le-leb, leb, leb-true, length, live, lt-ltb, ltb, ltb-false, ltb-true, names, next, not, openedRow, refl, rowIn, run, subst, sym, timeAt, token, true, turn-earlier, waiting, wakes, ℕ}
+use Rattle.promises.specs.Prelude.{Ask, Beat, Bool, Complete, GiveUp, List, Open, Release, Row, Table, Tick, [], _&&_, _+_, _-_, _<_, _||_, _∙_, _∷_, _≡_, _≤_, accepted, ahead, ahead-mono, ahead-set, and-left, and-true, ap, ap₂, arith, bit, blocked, cond, count, count-mono, course, earlier, either, eqb, false, getD-set-same, idle, jobs, le-antisymm, le-leb, leb, leb-true, length, live, lt-ltb, ltb, ltb-false, ltb-true, names, next, not, openedRow, refl, rowIn, run, subst, sym, timeAt, token, true, turn-earlier, waiting, wakes, ℕ}
 use Rattle.event.specs.declared.events.Event.{Event}
-use Rattle.promises.specs.History.Words.{leaving, leavings, lists, taken, Along, Bears, tallyOf}
+use Rattle.promises.specs.History.Words.{completingBy, completions, lists, taken, Along, Bears, tallyOf}
 use Rattle.promises.specs.History.Events.{next-either}
-use Rattle.kept.specs.Changes.{changes, left-by, lower-ahead, turn-ahead, turn-live}
-use Rattle.kept.specs.Words.{ends, Change, began, ended, gave, kept, Accepts, Acts}
+use Rattle.kept.specs.Changes.{lower-ahead}
+use Rattle.kept.specs.Words.{Accepts, Acts}
 use Rattle.promises.specs.History.Count.{ahead-run, along-accepted, along-next}
 use Rattle.promises.specs.History.Row.{alive, bears-after, lives, sets-after, waiting-is}
 use Rattle.promises.specs.History.Woken.{listed-after, unnamed}
-use Rattle.kept.specs.Accepted.{next-accepted, open-below, open-idle, was-sound}
+use Rattle.kept.specs.Accepted.{acts, next-accepted, open-below, open-idle, was-sound}
 use Rattle.kept.specs.Sound.Facts.{turns-given}
 
 -- ---- The opening
@@ -87,8 +87,21 @@ enough-all a e l p T some sum more till =
     few true c h = refl
     few false c h = absurd (omega (arith, till (ltb-false a T c), ltb-false a T c))
 
--- ---- Until the token comes every completion is one of an earlier request
+-- ---- Completions of earlier requests, and all
 
+-- an event counts for two tests as the row that it completes does, or for neither
+completing-two :
+    (f g : Row → Bool) (P : ℕ → ℕ → Type 0) (t : Table) → P 0 0 →
+    (e : Event) → ((k : ℕ) (tick : Tick) → e ≡ Complete k tick → P (bit (f (rowIn t k))) (bit (g (rowIn t k)))) →
+    P (completingBy f t e) (completingBy g t e)
+completing-two f g P t none (Beat tick) this = none
+completing-two f g P t none (Open k tick s) this = none
+completing-two f g P t none (Ask k tick s) this = none
+completing-two f g P t none (Release k tick s) this = none
+completing-two f g P t none (Complete k tick) this = this k tick refl
+completing-two f g P t none (GiveUp k tick s) this = none
+
+-- until the token comes every completion is one of an earlier request
 module _ {T n : ℕ} where
   -- while turn n has no token, whoever acts has a lower turn
   acts-before :
@@ -108,73 +121,59 @@ module _ {T n : ℕ} where
             ahead-mono (t .rows) n turn (ltb-false turn n q),
           ))
 
-  all-leave :
+  all-complete :
       (t : Table) → Along T n t → T ≤ ahead (t .rows) n → (e : Event) → Accepts jobs t e →
-      gone live (t .rows) (accepted t e .rows) ≡ gone (earlier n) (t .rows) (accepted t e .rows)
-  all-leave t along lacks e ok =
-      gone-same idle live (earlier n) (t .rows) (accepted t e .rows)
-      (λ k.
-      left-by t e k turn-live (changes jobs t e ok k)
-      ∙ go k (changes jobs t e ok k)
-      ∙ sym (left-by t e k (turn-ahead n) (changes jobs t e ok k)))
-    where
-      go : (k : ℕ) (c : Change t e k) → (ends c && live (rowIn t k)) ≡ (ends c && earlier n (rowIn t k))
-      go k (kept _) = refl
-      go k (gave _ _ _ _) = refl
-      go k (ended _ _ a _) = acts-before t along lacks k a
-      go k (began _ _ _) = refl
+      completingBy live t e ≡ completingBy (earlier n) t e
+  all-complete t along lacks e ok =
+      completing-two live (earlier n) (λ a b. a ≡ b) t refl e
+      (λ k tick q. ap bit (acts-before t along lacks k (acts jobs t (Complete k tick) (subst (Accepts jobs t) q ok) refl)))
 
   all-earlier :
       (t : Table) → Along T n t → (es : List Event) → T ≤ ahead (run t es .rows) n →
-      leavings live t es ≡ leavings (earlier n) t es
+      completions live t es ≡ completions (earlier n) t es
   unfolding tallyOf course
   all-earlier t along [] lacks = refl
   all-earlier t along (e ∷ es) lacks =
       ap₂ _+_
       (next-either t e
-      (λ b u. cond b (gone live (t .rows) (u .rows)) 0 ≡ cond b (gone (earlier n) (t .rows) (u .rows)) 0)
-      (all-leave t along (omega (arith, ahead-run t along (e ∷ es))) e)
+      (λ b u. cond b (completingBy live t e) 0 ≡ cond b (completingBy (earlier n) t e) 0)
+      (all-complete t along (omega (arith, ahead-run t along (e ∷ es))) e)
       refl)
       (all-earlier (next jobs t e) (along-next along e) es lacks)
 
 -- at any time the completions of earlier requests are no more than all
 module _ (n : ℕ) where
-  part-leaves :
-      (t : Table) (e : Event) → Accepts jobs t e →
-      gone (earlier n) (t .rows) (accepted t e .rows) ≤ gone live (t .rows) (accepted t e .rows)
-  part-leaves t e ok =
-      gone-mono idle (earlier n) live (t .rows) (accepted t e .rows)
-      (λ k q.
-      left-by t e k turn-live (changes jobs t e ok k)
-      ∙ go k (changes jobs t e ok k) (sym (left-by t e k (turn-ahead n) (changes jobs t e ok k)) ∙ q))
+  part-completes : (t : Table) (e : Event) → completingBy (earlier n) t e ≤ completingBy live t e
+  part-completes t e =
+      completing-two (earlier n) live (λ a b. a ≤ b) t (omega arith) e
+      (λ k tick q. less (live (rowIn t k)) (ltb (rowIn t k .turn .0) n))
     where
-      go : (k : ℕ) (c : Change t e k) → (ends c && earlier n (rowIn t k)) ≡ true → (ends c && live (rowIn t k)) ≡ true
-      go k (kept _) q = q
-      go k (gave _ _ _ _) q = q
-      go k (ended _ _ _ _) q = and-left (live (rowIn t k)) (ltb (rowIn t k .turn .0) n) q
-      go k (began _ _ _) q = q
+      less : (a b : Bool) → bit (a && b) ≤ bit a
+      less true true = omega arith
+      less true false = omega arith
+      less false b = omega arith
 
-  some-earlier : (t : Table) (es : List Event) → leavings (earlier n) t es ≤ leavings live t es
+  some-earlier : (t : Table) (es : List Event) → completions (earlier n) t es ≤ completions live t es
   unfolding tallyOf
   some-earlier t [] = omega arith
   some-earlier t (e ∷ es) =
-      let step : cond (taken t e) (leaving (earlier n) t e) 0 ≤ cond (taken t e) (leaving live t e) 0 =
-      next-either t e
-      (λ b u. cond b (gone (earlier n) (t .rows) (u .rows)) 0 ≤ cond b (gone live (t .rows) (u .rows)) 0)
-      (part-leaves t e)
-      (omega arith) in
+      let step : cond (taken t e) (completingBy (earlier n) t e) 0 ≤ cond (taken t e) (completingBy live t e) 0 = go (taken t e) in
       omega (arith, some-earlier (next jobs t e) es)
+    where
+      go : (b : Bool) → cond b (completingBy (earlier n) t e) 0 ≤ cond b (completingBy live t e) 0
+      go true = part-completes t e
+      go false = omega arith
 
 -- ---- When the token comes
 
 module _ {T n : ℕ} (some : 1 ≤ T) (t : Table) (along : Along T n t) (es : List Event) where
-  pub token-by-earlier : token T (run t es .rows) n ≡ leb (ahead (t .rows) n - (T - 1)) (leavings (earlier n) t es)
+  pub token-by-earlier : token T (run t es .rows) n ≡ leb (ahead (t .rows) n - (T - 1)) (completions (earlier n) t es)
   token-by-earlier =
-      enough (ahead (run t es .rows) n) (leavings (earlier n) t es) (ahead (t .rows) n) T some (ahead-run t along es)
+      enough (ahead (run t es .rows) n) (completions (earlier n) t es) (ahead (t .rows) n) T some (ahead-run t along es)
 
-  pub token-by-all : token T (run t es .rows) n ≡ leb (ahead (t .rows) n - (T - 1)) (leavings live t es)
+  pub token-by-all : token T (run t es .rows) n ≡ leb (ahead (t .rows) n - (T - 1)) (completions live t es)
   token-by-all =
-      enough-all (ahead (run t es .rows) n) (leavings (earlier n) t es) (leavings live t es) (ahead (t .rows) n) T some
+      enough-all (ahead (run t es .rows) n) (completions (earlier n) t es) (completions live t es) (ahead (t .rows) n) T some
       (ahead-run t along es)
       (some-earlier n t es)
       (all-earlier t along es)

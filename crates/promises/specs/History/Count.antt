@@ -1,10 +1,11 @@
--- Counts over whole histories: as many as there were, less those that left.
-use Rattle.promises.specs.Prelude.{Bool, List, Row, Table, [], _+_, _∙_, _∷_, _≡_, _≤_, about, accepted, ahead, arith, claims, cond, count, course, earlier, false, gone, inWay, jobs, next, opens, run, true, zero-add, ℕ}
+-- Counts over whole histories: as many as there were, less those that completed.
+use Rattle.promises.specs.Prelude.{Ask, Beat, Bool, Complete, GiveUp, List, Open, Release, Row, Table, [], _+_, _<_, _∙_, _∷_, _≡_, _≤_, about, accepted, ahead, ahead-set, ahead-settled, ap, arith, bit, cond, course, earlier, false, givingUp, idle, inWay, jobs, live-within, next, opens, refl, rowIn, run, set, settled, sym, true, zero-add, ℕ}
 use Rattle.event.specs.declared.events.Event.{Event}
 use Rattle.promises.specs.History.Events.{next-either}
-use Rattle.promises.specs.History.Words.{Along, leaving, leavings, taken, tallyOf}
-use Rattle.kept.specs.Changes.{count-accepted, length-after, lower-ahead, lower-way}
-use Rattle.kept.specs.Words.{Accepts, Lower}
+use Rattle.promises.specs.History.Words.{Along, completingBy, completions, taken, tallyOf}
+use Rattle.kept.specs.Accepted.{acts}
+use Rattle.kept.specs.Changes.{alike-quiet, clearer, length-after}
+use Rattle.kept.specs.Words.{Accepts}
 
 -- ---- What every table of a history keeps
 
@@ -29,28 +30,52 @@ unfolding course
 along-run along [] = along
 along-run along (e ∷ es) = along-run (along-next along e) es
 
--- ---- Over a whole sequence: as many as there were, less those that left
+-- ---- How many stand before turn n: as many as there were, less those that completed
 
-module _ {n : ℕ} {f : Row → Bool} (low : Lower n f) where
-  count-next :
-      {T : ℕ} (t : Table) → Along T n t → (e : Event) →
-      cond (taken t e) (leaving f t e) 0 + count f (next jobs t e .rows) ≡ count f (t .rows)
-  count-next t along e =
-      next-either t e (λ b u. cond b (gone f (t .rows) (u .rows)) 0 + count f (u .rows) ≡ count f (t .rows))
-      (λ ok. count-accepted jobs t e ok low (along .given))
+module _ {T n : ℕ} (t : Table) (along : Along T n t) where
+  -- by an event that wakes nobody none goes
+  ahead-quiet : (e : Event) → about e .wakes ≡ false → Accepts jobs t e → ahead (accepted t e .rows) n ≡ ahead (t .rows) n
+  ahead-quiet e quiet ok = sym (alike-quiet jobs t e ok n (along .given) quiet .same-ahead)
+
+  -- those before it after an event that writes row k and settles the rows
+  ahead-written :
+      (k : ℕ) (r : Row) → 0 < rowIn t k .turn .0 →
+      ahead (settled (t .tokens) (set (t .rows) k r)) n + bit (earlier n (rowIn t k)) ≡ ahead (t .rows) n + bit (earlier n r)
+  ahead-written k r alive =
+      ap (λ (before : ℕ). before + bit (earlier n (rowIn t k))) (ahead-settled (t .tokens) (set (t .rows) k r) n)
+      ∙ ahead-set (t .rows) k r (live-within (t .rows) k alive) n
+
+  -- by a completion the one that completes, by every other event none
+  ahead-after : (e : Event) → Accepts jobs t e → completingBy (earlier n) t e + ahead (accepted t e .rows) n ≡ ahead (t .rows) n
+  ahead-after (Beat tick) ok = zero-add _ ∙ ahead-quiet (Beat tick) refl ok
+  ahead-after (Open k tick s) ok = zero-add _ ∙ ahead-quiet (Open k tick s) refl ok
+  ahead-after (Ask k tick s) ok = zero-add _ ∙ ahead-quiet (Ask k tick s) refl ok
+  ahead-after (Release k tick s) ok = zero-add _ ∙ ahead-quiet (Release k tick s) refl ok
+  ahead-after (Complete k tick) ok = omega (arith, ahead-written k idle (acts jobs t (Complete k tick) ok refl .alive))
+  ahead-after (GiveUp k tick s) ok =
+      omega (arith, ahead-written k (givingUp (rowIn t k) s) (acts jobs t (GiveUp k tick s) ok refl .alive))
+
+  ahead-next :
+      (e : Event) → cond (taken t e) (completingBy (earlier n) t e) 0 + ahead (next jobs t e .rows) n ≡ ahead (t .rows) n
+  ahead-next e =
+      next-either t e (λ b u. cond b (completingBy (earlier n) t e) 0 + ahead (u .rows) n ≡ ahead (t .rows) n)
+      (ahead-after e)
       (zero-add _)
 
-  count-run :
-      {T : ℕ} (t : Table) → Along T n t → (es : List Event) → leavings f t es + count f (run t es .rows) ≡ count f (t .rows)
+module _ {T n : ℕ} where
+  pub ahead-run :
+      (t : Table) → Along T n t → (es : List Event) → completions (earlier n) t es + ahead (run t es .rows) n ≡ ahead (t .rows) n
   unfolding tallyOf course
-  count-run t along [] = zero-add _
-  count-run t along (e ∷ es) = omega (arith, count-next t along e, count-run (next jobs t e) (along-next along e) es)
+  ahead-run t along [] = zero-add _
+  ahead-run t along (e ∷ es) = omega (arith, ahead-next t along e, ahead-run (next jobs t e) (along-next along e) es)
 
-module _ {T n : ℕ} (t : Table) (along : Along T n t) (es : List Event) where
-  pub ahead-run : leavings (earlier n) t es + ahead (run t es .rows) n ≡ ahead (t .rows) n
-  unfolding ahead
-  ahead-run = count-run (lower-ahead n) t along es
-
-  pub way-run : (s : ℕ) → leavings (claims n s) t es + inWay (run t es .rows) n s ≡ inWay (t .rows) n s
-  unfolding inWay
-  way-run s = count-run (lower-way n s) t along es
+  -- and of those before it no more come to declare any of a set
+  pub way-falls : (t : Table) → Along T n t → (x : ℕ) (es : List Event) → inWay (run t es .rows) n x ≤ inWay (t .rows) n x
+  unfolding course
+  way-falls t along x [] = omega arith
+  way-falls t along x (e ∷ es) =
+      let step : inWay (next jobs t e .rows) n x ≤ inWay (t .rows) n x =
+      next-either t e (λ b u. inWay (u .rows) n x ≤ inWay (t .rows) n x)
+      (λ ok. clearer jobs t e ok n (along .given) .less-way x)
+      (omega arith) in
+      omega (arith, way-falls (next jobs t e) (along-next along e) x es)

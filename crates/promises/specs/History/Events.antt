@@ -1,4 +1,4 @@
--- Whole histories: which events are accepted, whom they list as woken, and which requests leave in their course.
+-- Whole histories: which events are accepted, what they leave, and whom they list as woken.
 use Rattle.promises.specs.Prelude.{_++_, Bool, Case, List, Table, [], about, accepted, answer, ap, applies, refusalsOf, calling, cases, casesBy, cond, false, false≢true, first, jobOf, jobs, keepUnless, le-ltb, leaves, length, listCases, listed, next, outcome, over, refl, said, setOf, suc, tickOf, true, unless, wakes, zero, ℕ, _∙_, _≡_, _≤_}
 use Rattle.event.specs.declared.events.Event.{Event}
 use Rattle.kept.specs.Words.{Accepts}

@@ -1,12 +1,12 @@
 -- How many are in the way of a request, along a history: as many as there were, less those that parted from it.
-use Rattle.promises.specs.Prelude.{Ask, Beat, Bool, Complete, GiveUp, List, Open, Release, Row, Table, [], _&&_, _+_, _<_, _∙_, _∷_, _≡_, about, accepted, and-false, ap, arith, bit, claims, cond, count, count-sum, course, earlier, earlier-turn, eqb, eqb-true, false, givingUp, idle, in-way-set, in-way-settled, inWay, jobs, live-within, meets, meets-comm, meets-without, next, not, not-earlier, refl, rowIn, run, set, settled, subst, sym, true, without, without-apart, without-none, zero-add, ℕ}
+use Rattle.promises.specs.Prelude.{Ask, Beat, Bool, Complete, GiveUp, List, Open, Release, Row, Table, Tick, Turn, [], _&&_, _+_, _<_, _∙_, _∷_, _≡_, about, accepted, and-false, and-right, ap, arith, bit, claims, cond, count, count-sum, course, earlier, earlier-turn, eq-eqb, eqb, eqb-true, false, getD-set-same, givingUp, idle, in-way-set, in-way-settled, inWay, jobs, live-within, meets, meets-comm, meets-without, next, not, not-earlier, not-true, refl, rowIn, run, set, settled, subst, sym, true, turn-settled, without, without-apart, without-none, zero-add, ℕ}
 use Rattle.event.specs.declared.events.Event.{Event}
 use Rattle.promises.specs.History.Events.{next-either}
-use Rattle.promises.specs.History.Words.{Along, givenUp, givenUpBy, inItsWay, partingBy, partings, partsByOther, partsByOwn, taken, tallyOf}
+use Rattle.promises.specs.History.Words.{Along, Parts, by-completion, by-give-up, by-own, givenUp, givenUpBy, inItsWay, partingBy, partings, partsByOther, partsByOwn, taken, tallyOf}
 use Rattle.promises.specs.History.Count.{along-next}
-use Rattle.promises.specs.History.Turn.{back-run, declared-after, declared-run}
+use Rattle.promises.specs.History.Turn.{back-run, declared-after, declared-given-up, declared-run}
 use Rattle.kept.specs.Accepted.{acts}
-use Rattle.kept.specs.Changes.{alike-quiet}
+use Rattle.kept.specs.Changes.{alike-quiet, lower-way}
 use Rattle.kept.specs.Words.{Accepts}
 
 -- of those that pass two tests, each passes a narrower second one too, or parts
@@ -17,6 +17,12 @@ parts-or-stays true true false narrower = refl
 parts-or-stays true false true narrower = let z = narrower refl in absurd (omega (arith, ap bit z))
 parts-or-stays true false false narrower = refl
 parts-or-stays false b c narrower = refl
+
+-- a request that shares nothing with another is not in its way
+out-of-way : (t : Table) (j k : ℕ) → meets (rowIn t k .declared) (rowIn t j .declared) ≡ false → inItsWay t j (rowIn t k) ≡ false
+out-of-way t j k apart =
+    let before = earlier (rowIn t j .turn .0) (rowIn t k) in
+    ap (λ (b : Bool). before && b) apart ∙ and-false before
 
 -- ---- By an accepted event
 
@@ -96,6 +102,46 @@ module _ {T : ℕ} (t : Table) (j : ℕ) (along : Along T (rowIn t j .turn .0) t
       rw (declared-after t along some j (GiveUp k tick s) ok q)
       (way-given-up k s (acts jobs t (GiveUp k tick s) ok refl .alive) (eqb k j) refl)
 
+-- ---- Who has parted by an accepted event
+
+module _ {T n : ℕ} (t : Table) (along : Along T n t) (some : 0 < n) (j k : ℕ) where
+  abbrev mine : ℕ
+  mine = rowIn t j .declared
+
+  abbrev its : ℕ
+  its = rowIn t k .declared
+
+  -- after a give up the two share what is left of both
+  out-by-give-up :
+      (i : ℕ) (tick : Tick) (s : ℕ) → Accepts jobs t (GiveUp i tick s) →
+      meets (without its (cond (eqb i k) s 0)) (without mine (cond (eqb i j) s 0)) ≡ false →
+      inItsWay (accepted t (GiveUp i tick s)) j (rowIn (accepted t (GiveUp i tick s)) k) ≡ false
+  out-by-give-up i tick s ok apart =
+      out-of-way (accepted t (GiveUp i tick s)) j k
+      ((λ x. meets (declared-given-up t along some k i tick s ok x) (declared-given-up t along some j i tick s ok x)) ∙ apart)
+
+  -- whoever parts by an accepted event is out of its way after it
+  pub parted-then : {e : Event} → Parts t j k e → Accepts jobs t e → inItsWay (accepted t e) j (rowIn (accepted t e) k) ≡ false
+  parted-then (by-completion tick _) ok =
+      let after = accepted t (Complete k tick) in
+      let within = live-within (t .rows) k (acts jobs t (Complete k tick) ok refl .alive) in
+      lower-way (rowIn after j .turn .0) (rowIn after j .declared) .opening .idle-fails (rowIn after k)
+      (ap (λ (turn : Turn). turn .0) (turn-settled (t .tokens) (set (t .rows) k idle) k)
+      ∙ ap (λ (r : Row). r .turn .0) (getD-set-same (t .rows) k idle idle within))
+  parted-then (by-give-up tick s parts) ok =
+      let left = without its s in
+      let apart = not-true (meets left mine) (and-right (inItsWay t j (rowIn t k)) (not (meets left mine)) parts) in
+      let lost = cond (eqb k j) s 0 in
+      out-by-give-up k tick s ok
+      (rw (eq-eqb k k refl)
+      (ap (λ (d : ℕ). meets d (without mine lost)) (sym (without-none left)) ∙ without-apart left mine 0 lost apart))
+  parted-then (by-own tick s parts) ok =
+      let left = without mine s in
+      let apart = not-true (meets its left) (and-right (inItsWay t j (rowIn t k)) (not (meets its left)) parts) in
+      let lost = cond (eqb j k) s 0 in
+      out-by-give-up j tick s ok
+      (rw (eq-eqb j j refl) (ap (meets (without its lost)) (sym (without-none left)) ∙ without-apart its left lost 0 apart))
+
 -- ---- Over a whole sequence
 
 module _ {T n : ℕ} where
@@ -144,7 +190,6 @@ module _ {T n : ℕ} where
       ap (λ (b : Bool). b && shared) (sym before)
       ∙ ap (λ (n : ℕ). earlier n (rowIn t k) && shared) (sym (back-run t along some j es q))
       ∙ parted in
-      ap (λ (b : Bool). earlier (rowIn (run t es) j .turn .0) (rowIn (run t es) k) && b)
+      out-of-way (run t es) j k
       ((λ i. meets (declared-run t lower (stands .0) k es same i) (declared-run t along some j es q i))
       ∙ without-apart (rowIn t k .declared) (rowIn t j .declared) (givenUp k t es) (givenUp j t es) apart)
-      ∙ and-false (earlier (rowIn (run t es) j .turn .0) (rowIn (run t es) k))

@@ -38,7 +38,7 @@ module _ {T n : ℕ} (t : Table) (along : Along T n t) (some : 0 < n) (j : ℕ) 
       go (began _ _ turn) = absurd (omega (arith, along .given))
 
   -- what a give up leaves it, its own or another's
-  declared-given-up :
+  pub declared-given-up :
       (k : ℕ) (tick : Tick) (s : ℕ) → Accepts jobs t (GiveUp k tick s) →
       rowIn (accepted t (GiveUp k tick s)) j .declared ≡ without declared (cond (eqb k j) s 0)
   declared-given-up k tick s ok = go (eqb k j) refl

@@ -1,13 +1,14 @@
--- Whole histories: which events are accepted, whom they list as woken, and which requests leave or part in their course.
+-- Whole histories: which events are accepted, whom they list as woken, and which requests complete or part in their course.
 use Prim.Native.Nat.{ℕ, _+_, _≤_, _<_}
 use mathlib.Core.Bool.{Bool, true, false, cond, not, _&&_}
 use mathlib.Core.List.{List, [], _∷_}
 use mathlib.Core.Path.{_≡_}
 use lib.Dec.{eqb}
+use Rattle.event.specs.declared.clock.Tick.{Tick}
 use Rattle.event.specs.declared.events.Event.{Event}
 use Rattle.event.specs.declared.events.Event.the-variants.{Ask, Beat, Complete, GiveUp, Open, Release}
 use Rattle.laws.specs.Bools.{bit}
-use Rattle.laws.specs.Lists.{count, gone}
+use Rattle.laws.specs.Lists.{count}
 use Rattle.laws.specs.Sets.{meets, union, without}
 use Rattle.rows.specs.Order.{claims}
 use Rattle.laws.specs.Cases.{Outcome, refused, fine}
@@ -45,19 +46,23 @@ ours = record { answer = answer jobs; next = next jobs; lists = lists; report = 
 abbrev pub takes : Arbiter → Table → Event → Bool
 takes a t e = isFine (a .answer t e)
 
--- how many rows pass f before an event and not after it
-abbrev pub leavingOf : Arbiter → (Row → Bool) → Table → Event → ℕ
-leavingOf a f t e = gone f (t .rows) (a .next t e .rows)
-
 -- the sum of a number told of each accepted event and the table that it meets, over a whole sequence of events
 unfoldable pub tallyOf : Arbiter → (Table → Event → ℕ) → Table → List Event → ℕ
 tallyOf a number t [] = 0
 tallyOf a number t (e ∷ es) = cond (takes a t e) (number t e) 0 + tallyOf a number (a .next t e) es
 
--- how many rows pass f before an accepted event and not after it, over a whole sequence of events: `leavingsOf a live` are
--- all accepted completions
-abbrev pub leavingsOf : Arbiter → (Row → Bool) → Table → List Event → ℕ
-leavingsOf a f = tallyOf a (leavingOf a f)
+-- how many requests whose row passes f an event completes: at most one by a completion, none by any other event
+abbrev pub completingBy : (Row → Bool) → Table → Event → ℕ
+completingBy f t (Beat tick) = 0
+completingBy f t (Open k tick s) = 0
+completingBy f t (Ask k tick s) = 0
+completingBy f t (Release k tick s) = 0
+completingBy f t (Complete k tick) = bit (f (rowIn t k))
+completingBy f t (GiveUp k tick s) = 0
+
+-- the accepted completions of requests whose row passes f, over a whole sequence of events
+abbrev pub completionsOf : Arbiter → (Row → Bool) → Table → List Event → ℕ
+completionsOf a f = tallyOf a (completingBy f)
 
 -- the accepted ones of a sequence of events
 unfoldable pub heededBy : Arbiter → Table → List Event → List Event
@@ -77,6 +82,12 @@ partsByOther t j s r = inItsWay t j r && not (meets (without (r .declared) s) (r
 -- r is in its way, and shares nothing with what the request has left when it gives up s itself
 abbrev pub partsByOwn : Table → ℕ → ℕ → Row → Bool
 partsByOwn t j s r = inItsWay t j r && not (meets (r .declared) (without (rowIn t j .declared) s))
+
+-- job k's request parts from job j's by an event: it is in its way and completes, or one of the two gives up the last they share
+pub data Parts (t : Table) (j k : ℕ) : Event → Type 0 where
+  by-completion : (tick : Tick) → inItsWay t j (rowIn t k) ≡ true → Parts t j k (Complete k tick)
+  by-give-up : (tick : Tick) (s : ℕ) → partsByOther t j s (rowIn t k) ≡ true → Parts t j k (GiveUp k tick s)
+  by-own : (tick : Tick) (s : ℕ) → partsByOwn t j s (rowIn t k) ≡ true → Parts t j k (GiveUp j tick s)
 
 -- how many part from job j's request by an accepted event, told from the event and the rows before it: one in its way that
 -- completes; one in its way that gives up the last they share; and by the request's own give up, all in its way with whom it
@@ -113,13 +124,9 @@ givenUpOf a j t (e ∷ es) = union (cond (takes a t e) (givenUpBy j e) 0) (given
 abbrev pub taken : Table → Event → Bool
 taken = takes ours
 
--- how many leave by an event of ours
-abbrev pub leaving : (Row → Bool) → Table → Event → ℕ
-leaving = leavingOf ours
-
--- and over a sequence of events
-abbrev pub leavings : (Row → Bool) → Table → List Event → ℕ
-leavings = leavingsOf ours
+-- the completions of requests whose row passes f, over a sequence of events
+abbrev pub completions : (Row → Bool) → Table → List Event → ℕ
+completions = completionsOf ours
 
 -- how many part from job j's request over a sequence of events
 abbrev pub partings : ℕ → Table → List Event → ℕ
