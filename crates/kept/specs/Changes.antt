@@ -1,9 +1,9 @@
 -- What an accepted event does to the turns and declared sets of the rows, said once for each event, and what follows for every
 -- count.
-use Rattle.kept.specs.Prelude.{Ask, Beat, Bool, Complete, GiveUp, List, Open, Release, Row, Table, _&&_, _+_, _<_, _∙_, _≡_, _≤_, about, accepted, ahead, and-eq-true-iff, and-not-self, and-true, ap, arith, blocked, claims, cond, count, decLe, earlier, either, eq-eqb, false, false≢true, getD-set-other, getD-set-same, givingUp, gone, gone-balance, gone-none, hasJob, idle, inWay, jobOf, length, length-set, length-settled, live, live-within, ltb, meets, meets-without, names, not, not-earlier, openedRow, openingOf, refl, row-settled, rowAfter, rowIn, rowOf, rowsWith, set, set-out, setOf, settled, subst, swept-idle, swept-keeps, sweptRow, sym, tickOf, timeAt, true, true≢false, without, ℕ, ℕ-discrete}
+use Rattle.kept.specs.Prelude.{Ask, Beat, Bool, Complete, GiveUp, List, Open, Release, Row, Table, _&&_, _+_, _<_, _∙_, _≡_, _≤_, about, accepted, ahead, and-eq-true-iff, and-not-self, ap, arith, blocked, claims, cond, count, decLe, earlier, either, eq-eqb, false, false≢true, getD-set-other, getD-set-same, givingUp, gone, gone-balance, gone-none, hasJob, idle, inWay, jobOf, length, length-set, length-settled, live-within, ltb, meets, meets-without, names, not, not-earlier, openedRow, openingOf, refl, row-settled, rowAfter, rowIn, rowOf, rowsWith, set, set-out, setOf, settled, subst, swept-idle, swept-keeps, sweptRow, sym, tickOf, timeAt, true, true≢false, without, ℕ, ℕ-discrete}
 use Rattle.event.specs.declared.events.Event.{Event}
 use Rattle.kept.specs.Accepted.{acts, open-idle}
-use Rattle.kept.specs.Words.{Accepts, Acts, Alike, ByOpening, ByTurn, Change, Clearer, Lower, began, ended, ends, gave, kept}
+use Rattle.kept.specs.Words.{Accepts, Acts, Alike, ByOpening, Change, Clearer, Lower, began, ended, gave, kept}
 
 -- ---- What becomes of a row
 
@@ -63,15 +63,6 @@ module _ (n : ℕ) (t : Table) where
 
 -- ---- Who leaves, and how many stay
 
--- a test by the turn alone is one by the turn and the declared set
-pub turn-opening : {f : Row → Bool} → ByTurn f → ByOpening f
-turn-opening turn =
-    record {
-      by-opening = λ r. turn .by-turn (openingOf r) r refl;
-      idle-fails = λ r was. turn .by-turn r idle was ∙ turn .idle-fails;
-      gains-nothing = λ r s passes. turn .by-turn r (givingUp r s) refl ∙ passes;
-    }
-
 module _ (t : Table) (e : Event) (k : ℕ) where
   abbrev old : Row
   old = rowIn t k
@@ -99,16 +90,6 @@ module _ (t : Table) (e : Event) (k : ℕ) where
     leaves-by-own (ended loud named a _) gone = (loud, named, a)
     leaves-by-own (began _ was _) gone =
         absurd (false≢true (sym (ap (λ (b : Bool). b && not (f new)) (opening .idle-fails old was)) ∙ gone))
-
-  -- where the turn alone is tested, only by its end a row that passed before does not pass after
-  pub left-by : {f : Row → Bool} → ByTurn f → (c : Change t e k) → (f old && not (f new)) ≡ (ends c && f old)
-  left-by {f} turn (kept same) =
-      ap (λ (b : Bool). f old && not b) (passes-as (turn-opening turn) old same) ∙ and-not-self (f old)
-  left-by {f} turn (gave _ _ _ less) =
-      ap (λ (b : Bool). f old && not b) (turn .by-turn new old (ap (λ (r : Row). r .turn .0) less)) ∙ and-not-self (f old)
-  left-by {f} turn (ended _ _ _ now) =
-      ap (λ (b : Bool). f old && not b) (ap f now ∙ turn .idle-fails) ∙ and-true (f old)
-  left-by {f} turn (began _ was _) = ap (λ (b : Bool). b && not (f new)) (turn .by-turn old idle was ∙ turn .idle-fails)
 
 module _ (n : ℕ) (t : Table) (e : Event) (ok : Accepts n t e) where
   abbrev after : List Row
@@ -170,15 +151,18 @@ module _ (n : ℕ) (t : Table) (e : Event) (ok : Accepts n t e) where
 
 -- ---- Its two instances
 
-pub turn-live : ByTurn live
-turn-live = record { by-turn = λ r r′ same. ap (ltb 0) same; idle-fails = refl }
-
 module _ (n : ℕ) where
-  pub turn-ahead : ByTurn (earlier n)
-  turn-ahead = record { by-turn = λ r r′ same. ap (λ (m : ℕ). ltb 0 m && ltb m n) same; idle-fails = refl }
-
   pub lower-ahead : Lower n (earlier n)
-  lower-ahead = record { opening = turn-opening turn-ahead; late-fails = not-earlier n }
+  lower-ahead =
+      record {
+        opening =
+            record {
+              by-opening = λ r. refl;
+              idle-fails = λ r e. ap (λ (m : ℕ). ltb 0 m && ltb m n) e;
+              gains-nothing = λ r s passes. passes;
+            };
+        late-fails = not-earlier n;
+      }
 
   pub lower-way : (s : ℕ) → Lower n (claims n s)
   lower-way s =

@@ -1,6 +1,6 @@
 -- The names from outside that this crate's definitions and proofs use, passed on by one module.
 pub use Prim.Native.Nat.{_+_, _-_, _<_, _^_, _≤_, min, suc, zero, ℕ}
-pub use mathlib.Core.Bool.{Bool, _&&_, _||_, and-eq-true-iff, and-false, and-not-self, and-true, cond, false, false≢true, not, or-false, or-true, true, true≢false}
+pub use mathlib.Core.Bool.{Bool, _&&_, _||_, and-eq-true-iff, and-false, and-not-self, cond, false, false≢true, not, or-false, or-true, true, true≢false}
 pub use mathlib.Core.List.{List, List·Memᴰ, List·Memᴰ·cases-cons, List·Memᴰ·not-nil, [], _++_, _∷_}
 pub use mathlib.Core.Logic.{_≢_, _⊎_, inl, inr}
 pub use mathlib.Core.Path.{_∙_, _≡_, ap, refl, subst, sym}

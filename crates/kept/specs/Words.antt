@@ -133,21 +133,7 @@ pub record ByOpening (f : Row → Bool) : Type 0 where
   -- whoever passes after giving up something passed before
   pub gains-nothing : (r : Row) (s : ℕ) → f (givingUp r s) ≡ true → f r ≡ true
 
--- a test by the turn of a row alone, which no idle row passes
-pub record ByTurn (f : Row → Bool) : Type 0 where
-  pub by-turn : (r r′ : Row) → r .turn .0 ≡ r′ .turn .0 → f r ≡ f r′
-  pub idle-fails : f idle ≡ false
-
--- a test as the first, which no row of turn n or higher passes
+-- such a test that no row of turn n or higher passes
 pub record Lower (n : ℕ) (f : Row → Bool) : Type 0 where
   pub opening : ByOpening f
   pub late-fails : (r : Row) → n ≤ r .turn .0 → f r ≡ false
-
--- ---- Who leaves, and how many stay
-
--- the change is the end of a request
-abbrev pub ends : {t : Table} {e : Event} {k : ℕ} → Change t e k → Bool
-ends (kept _) = false
-ends (gave _ _ _ _) = false
-ends (ended _ _ _ _) = true
-ends (began _ _ _) = false

@@ -1,5 +1,5 @@
 -- Who has gone: how many pass a test before and not after, and how that moves the count of those who pass.
-use Rattle.laws.specs.Prelude.{_&&_, _+_, Bool, List, [], arith, false, getD, le-antisymm, length, not, refl, suc, sym, true, ℕ, _∙_, _∷_, _≡_, _≤_}
+use Rattle.laws.specs.Prelude.{_&&_, _+_, Bool, List, [], arith, false, getD, length, not, refl, suc, true, ℕ, _∷_, _≡_}
 use Rattle.laws.specs.Bools.{bit}
 use Rattle.laws.specs.Lists.{count, gone}
 
@@ -24,24 +24,6 @@ module _ {A : Type 0} (d : A) where
   -- whether the one at this place has gone
   abbrev left : (A → Bool) → List A → List A → ℕ → Bool
   left f l m k = f (getD l k d) && not (f (getD m k d))
-
-  -- where whoever is gone by f is gone by g, no more are gone by f
-  pub gone-mono :
-      (f g : A → Bool) (l m : List A) → ((k : ℕ) → left f l m k ≡ true → left g l m k ≡ true) → gone f l m ≤ gone g l m
-  unfolding gone
-  gone-mono f g [] m each = omega arith
-  gone-mono f g (x ∷ l) [] each = omega arith
-  gone-mono f g (x ∷ l) (y ∷ m) each =
-      go (f x && not (f y)) (g x && not (g y)) (each 0) (gone-mono f g l m (λ k. each (suc k)))
-    where
-      go : (a b : Bool) → (a ≡ true → b ≡ true) → gone f l m ≤ gone g l m → bit a + gone f l m ≤ bit b + gone g l m
-      go true b e more = rw (e refl) (omega arith)
-      go false b e more = omega arith
-
-  pub gone-same :
-      (f g : A → Bool) (l m : List A) → ((k : ℕ) → left f l m k ≡ left g l m k) → gone f l m ≡ gone g l m
-  gone-same f g l m each =
-      le-antisymm (gone-mono f g l m (λ k e. sym (each k) ∙ e)) (gone-mono g f l m (λ k e. each k ∙ e))
 
   -- where nobody has gone at any place, nobody has
   pub gone-none : (f : A → Bool) (l m : List A) → ((k : ℕ) → left f l m k ≡ false) → gone f l m ≡ 0

@@ -9,7 +9,7 @@ pub use borrow.Author.Tests.{eq-eqb, eqb-false, eqb-true, le-leb, le-ltb, leb-tr
 pub use lib.Dec.{eqb, leb, ltb}
 pub use lib.ListN.{List·getD-map, getD, length, length-map, length-replicate, replicate, set}
 pub use lib.Seq.{ext-getD, getD-set-same}
-pub use Rattle.laws.specs.BoolLaws.{and-left, and-right, either}
+pub use Rattle.laws.specs.BoolLaws.{and-left, and-right, either, same}
 pub use Rattle.laws.specs.Bools.{bit}
 pub use Rattle.laws.specs.CaseLaws.{acceptance-tells, first-front}
 pub use Rattle.laws.specs.Cases.{Case, Outcome, fine, keepUnless, refused, unless, when}

@@ -1,5 +1,5 @@
 -- The token of a request: it is opened with all live requests before it, and as many must complete as are too many.
-use Rattle.promises.specs.Prelude.{Ask, Beat, Bool, Complete, GiveUp, List, Open, Release, Row, Table, Tick, [], _&&_, _+_, _-_, _<_, _||_, _∙_, _∷_, _≡_, _≤_, accepted, ahead, ahead-mono, ahead-set, and-left, and-true, ap, ap₂, arith, bit, blocked, cond, count, count-mono, course, earlier, either, eqb, false, getD-set-same, idle, jobs, le-antisymm, le-leb, leb, leb-true, length, live, lt-ltb, ltb, ltb-false, ltb-true, names, next, not, openedRow, refl, rowIn, run, subst, sym, timeAt, token, true, turn-earlier, waiting, wakes, ℕ}
+use Rattle.promises.specs.Prelude.{Ask, Beat, Bool, Complete, GiveUp, List, Open, Release, Row, Table, Tick, [], _&&_, _+_, _-_, _<_, _||_, _∙_, _∷_, _≡_, _≤_, accepted, ahead, ahead-mono, ahead-set, and-left, and-true, ap, ap₂, arith, bit, blocked, cond, count, count-mono, course, earlier, either, eqb, false, getD-set-same, idle, jobs, le-antisymm, le-leb, leb, leb-true, length, live, lt-ltb, ltb, ltb-false, ltb-true, names, next, not, openedRow, refl, rowIn, run, same, subst, sym, timeAt, token, true, turn-earlier, waiting, wakes, ℕ}
 use Rattle.event.specs.declared.events.Event.{Event}
 use Rattle.promises.specs.History.Words.{completingBy, completions, lists, taken, Along, Bears, tallyOf}
 use Rattle.promises.specs.History.Events.{next-either}
@@ -56,30 +56,24 @@ module _ {T : ℕ} (t : Table) (along : Along T 0 t) (j : ℕ) (tick : Tick) (s 
 
 -- ---- Plain numbers
 
--- two tests are the same where each tells the other
-agree : (a b : Bool) → (a ≡ true → b ≡ true) → (b ≡ true → a ≡ true) → a ≡ b
-agree true b p q = sym (p refl)
-agree false true p q = q refl
-agree false false p q = refl
-
 -- to be below T is to be at most T-1
 pub below-at-most : (p T : ℕ) → 1 ≤ T → ltb p T ≡ leb p (T - 1)
 below-at-most p T some =
-    agree (ltb p T) (leb p (T - 1))
+    same (ltb p T) (leb p (T - 1))
     (λ q. le-leb p (T - 1) (omega (arith, ltb-true p T q)))
     (λ q. lt-ltb p T (omega (arith, leb-true p (T - 1) q)))
 
 -- of p rows a are left, e having left: they are fewer than T exactly if as many left as p exceeds T-1
 enough : (a e p T : ℕ) → 1 ≤ T → e + a ≡ p → ltb a T ≡ leb (p - (T - 1)) e
 enough a e p T some sum =
-    agree (ltb a T) (leb (p - (T - 1)) e)
+    same (ltb a T) (leb (p - (T - 1)) e)
     (λ q. le-leb (p - (T - 1)) e (omega (arith, ltb-true a T q)))
     (λ q. lt-ltb a T (omega (arith, leb-true (p - (T - 1)) e q)))
 
 -- and so for l, which is at least e, and more only once they are fewer than T
 enough-all : (a e l p T : ℕ) → 1 ≤ T → e + a ≡ p → e ≤ l → (T ≤ a → l ≡ e) → ltb a T ≡ leb (p - (T - 1)) l
 enough-all a e l p T some sum more till =
-    agree (ltb a T) (leb (p - (T - 1)) l)
+    same (ltb a T) (leb (p - (T - 1)) l)
     (λ q. le-leb (p - (T - 1)) l (omega (arith, ltb-true a T q)))
     (λ q. few (ltb a T) refl (leb-true (p - (T - 1)) l q))
   where
