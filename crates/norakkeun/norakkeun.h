@@ -29,15 +29,15 @@ enum {
     NORAKKEUN_WOKE = 5     /* complete, give up: as many jobs as `woken` says stand at the front of the lent list */
 };
 
-/* The refusals. The lowest number that applies to the call is the one given; of saving and loading the first in the order
- * that stands beside them. */
+/* The refusals. The first that applies to the call is the one given: in the order of the numbers, but 23 behind 5 and before
+ * 6; of saving and loading in the order that stands beside them. */
 enum {
     NORAKKEUN_ACCEPTED = 0,
     NORAKKEUN_BAD_START = 1,        /* tokens, resources or limit out of range */
     NORAKKEUN_SHORT_LIST = 2,       /* a lent list shorter than 64 */
     NORAKKEUN_UNSOUND_TABLE = 3,    /* a table that is not sound */
     NORAKKEUN_NO_SUCH_JOB = 4,      /* a job above 63 */
-    NORAKKEUN_CLOCK_GONE_BACK = 5,  /* a tick 2^31 or more ahead of the clock */
+    NORAKKEUN_CLOCK_GONE_BACK = 5,  /* a tick 2^31 ms or more ahead of true time: it lies behind it */
     NORAKKEUN_TIME_SPENT = 6,       /* true time would pass 2^63-1 */
     NORAKKEUN_ALREADY_LIVE = 7,     /* the job has a live request */
     NORAKKEUN_NOT_LIVE = 8,         /* the job has none */
@@ -54,7 +54,8 @@ enum {
     NORAKKEUN_BIT_SET = 19,         /* load, and a replay: a bit that must be 0 is 1 */
     NORAKKEUN_START_OUT_OF_PLACE = 20, /* a replay only: start not first, or first not start */
     NORAKKEUN_WRONG_SIZE = 21,      /* load: a service file of the wrong length; save: no room for it */
-    NORAKKEUN_UNKNOWN_VERSION = 22  /* load: a service file of a version other than 1 */
+    NORAKKEUN_UNKNOWN_VERSION = 22, /* load: a service file of a version other than 1 */
+    NORAKKEUN_CLOCK_LEAP = 23       /* a tick more than 3,600,000 ms ahead of true time; looked at behind 5 */
 };
 
 /* The drive's millisecond counter: 32 bits, 0 after 4294967295. A struct, so that no turn can stand in its place. */
@@ -124,7 +125,7 @@ typedef struct norakkeun_saved {
 /* The first table: all rows idle, true time is the tick. A refused start gives the all-zero table, which is not sound. */
 norakkeun_told norakkeun_start(uint32_t tokens, uint32_t resources, norakkeun_tick tick, uint32_t limit);
 
-/* Only the clock moves. */
+/* Only the clock moves. Some event must be accepted at least every 3,600,000 ms; if there is no other, a beat. */
 norakkeun_told norakkeun_beat(norakkeun_table table, norakkeun_tick tick);
 
 /* The job's request becomes live with the next turn and this declared set. Says token or wait. */
@@ -169,7 +170,8 @@ uint32_t norakkeun_record_give_up(uint32_t job, norakkeun_tick tick, uint64_t se
  * room is as before. */
 norakkeun_saved norakkeun_save(norakkeun_table table, uint8_t *room, size_t length);
 
-/* The table of a service file. Says done; refused as 21, 22, 19, then 3, it gives the all-zero table, which is not sound. */
+/* The table of a service file, with the clock that it was saved with: the next tick must lie within the hour after it. Says
+ * done; refused as 21, 22, 19, then 3, it gives the all-zero table, which is not sound. */
 norakkeun_told norakkeun_load(const uint8_t *file, size_t length);
 
 #ifdef __cplusplus

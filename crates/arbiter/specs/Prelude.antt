@@ -13,7 +13,7 @@ pub use lib.ListN.{getD, length, length-map, replicate, set}
 pub use Rattle.laws.specs.BoolLaws.{and-left, and-right, implied}
 pub use Rattle.laws.specs.Bools.{implies}
 pub use Rattle.laws.specs.CaseLaws.{acceptance-tells, clear, leaves-is, leaves-same, outcome-is, outcome-past, refusal-tells}
-pub use Rattle.laws.specs.Cases.{Case, Outcome, ascending, fine, leaves, outcome, refused}
+pub use Rattle.laws.specs.Cases.{Case, Outcome, fine, follows, leaves, outcome, refused}
 unfoldable pub use Rattle.laws.specs.Cases.{ascends, case}
 pub use Rattle.laws.specs.Chains.{_and_, none, past, this}
 pub use Rattle.laws.specs.Counts.{all-each, count-and-true, count-every, count-mono}
@@ -33,7 +33,7 @@ pub use Rattle.event.specs.EventLaws.{every-kind}
 pub use Rattle.event.specs.Events.{Description, about, actor, described, jobOf, kindOf, ofRole, refusalsOf, setOf, tickOf}
 pub use Rattle.event.specs.Limits.{highest, jobs}
 pub use Rattle.event.specs.RefusalLaws.{clear-named, refusalOf-numberOf}
-pub use Rattle.event.specs.Refusals.{among, casesBy, numberOf}
+pub use Rattle.event.specs.Refusals.{among, casesBy, documented, numberOf}
 pub use Rattle.event.specs.declared.clock.Tick.{Tick}
 pub use Rattle.event.specs.declared.events.Event.{Event}
 pub use Rattle.event.specs.declared.events.Event.the-variants.{Ask, Beat, Complete, GiveUp, Open, Release}

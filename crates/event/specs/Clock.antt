@@ -9,7 +9,7 @@ use Rattle.event.specs.Refusals.{numberOf, refusing}
 use Rattle.event.specs.declared.clock.Moment.{Moment}
 use Rattle.event.specs.declared.clock.Moment.the-variants.{No, At}
 use Rattle.event.specs.declared.refusal.Refusal.{Refusal}
-use Rattle.event.specs.declared.refusal.Refusal.the-variants.{ClockGoneBack, TimeSpent}
+use Rattle.event.specs.declared.refusal.Refusal.the-variants.{ClockGoneBack, ClockLeap, TimeSpent}
 
 -- the forward difference: how far the tick lies ahead of true time's low 32 bits, around the wrap
 abbrev pub difference : ℕ → ℕ → ℕ
@@ -19,17 +19,29 @@ difference time tick = (tick + 2 ^ 32 - time % 2 ^ 32) % 2 ^ 32
 abbrev pub goneBack : ℕ → ℕ → Bool
 goneBack time tick = leb (2 ^ 31) (difference time tick)
 
+-- an hour in milliseconds
+abbrev pub hour : ℕ
+hour = 3600000
+
+-- the clock has leapt: the difference is above an hour
+abbrev pub leapt : ℕ → ℕ → Bool
+leapt time tick = ltb hour (difference time tick)
+
 -- the next true time would lie past the highest
 abbrev pub timeSpent : ℕ → ℕ → Bool
 timeSpent time tick = ltb highest (time + difference time tick)
 
 -- what is asked of a tick, in this order
 abbrev pub clockRefusals : List Refusal
-clockRefusals = ClockGoneBack ∷ TimeSpent ∷ []
+clockRefusals = ClockGoneBack ∷ ClockLeap ∷ TimeSpent ∷ []
 
 -- the cases of a tick
 abbrev pub clockCases : ℕ → ℕ → List Case
-clockCases time tick = refusing ClockGoneBack (goneBack time tick) ∷ refusing TimeSpent (timeSpent time tick) ∷ []
+clockCases time tick =
+    refusing ClockGoneBack (goneBack time tick)
+    ∷ refusing ClockLeap (leapt time tick)
+    ∷ refusing TimeSpent (timeSpent time tick)
+    ∷ []
 
 -- the next true time, or the refusal
 unfoldable pub forward : ℕ → ℕ → Outcome ℕ
@@ -50,7 +62,7 @@ unfoldable pub forwards : ℕ → List ℕ → List (Outcome ℕ)
 forwards time [] = []
 forwards time (tick ∷ ticks) = forward time tick ∷ forwards (timeAfter time (forward time tick)) ticks
 
--- real times, each at most 2^31-1 ms after the one before, none above the highest
+-- real times, each at most an hour after the one before, none above the highest
 pub data Often : ℕ → List ℕ → Type 0 where
   ended : {time : ℕ} → Often time []
-  then : {time n : ℕ} {ns : List ℕ} → time ≤ n → n ≤ time + (2 ^ 31 - 1) → n ≤ highest → Often n ns → Often time (n ∷ ns)
+  then : {time n : ℕ} {ns : List ℕ} → time ≤ n → n ≤ time + hour → n ≤ highest → Often n ns → Often time (n ∷ ns)

@@ -2,7 +2,7 @@
 use Rattle.event.specs.Prelude.{_%_, _+_, _-_, _<_, List, _^_, acceptance-tells, ap, arith, fine, le-ltb, lt-leb, map, outcome-is, past, refl, sym, ℕ, _∙_, _∷_, _≡_, _≤_}
 use Rattle.laws.specs.Chains.{none}
 use Rattle.event.specs.Limits.{highest}
-use Rattle.event.specs.Clock.{difference, clockCases, forward, forwards, Often, ended, then}
+use Rattle.event.specs.Clock.{difference, hour, clockCases, forward, forwards, Often, ended, then}
 
 -- the low 32 bits of an accepted time are the tick that gave it
 pub forward-low : (time tick n : ℕ) → tick < 2 ^ 32 → forward time tick ≡ fine n → n % 2 ^ 32 ≡ tick
@@ -11,16 +11,20 @@ forward-low time tick n h e =
     let sum = acceptance-tells {B = ℕ} (clockCases time tick) (time + difference time tick) n e .1 in
     omega arith
 
--- the tick of a real time that is at most 2^31-1 ms on gives that time
+-- the difference to the tick of a real time that is at most an hour on leads there
+pub moved-on : (time n : ℕ) → time ≤ n → n ≤ time + hour → time + difference time (n % 2 ^ 32) ≡ n
+moved-on time n low near = omega arith
+
+-- so that tick gives that time
 pub forward-real :
-    (time n : ℕ) → time ≤ n → n ≤ time + (2 ^ 31 - 1) → n ≤ highest → forward time (n % 2 ^ 32) ≡ fine n
+    (time n : ℕ) → time ≤ n → n ≤ time + hour → n ≤ highest → forward time (n % 2 ^ 32) ≡ fine n
 unfolding forward
 forward-real time n low near last =
-    let ahead : difference time (n % 2 ^ 32) ≡ n - time = omega arith in
-    let sum : time + difference time (n % 2 ^ 32) ≡ n = omega arith in
+    let sum = moved-on time n low near in
     let forth = lt-leb (2 ^ 31) (difference time (n % 2 ^ 32)) (omega arith) in
+    let near-by = le-ltb hour (difference time (n % 2 ^ 32)) (omega arith) in
     let within = le-ltb highest (time + difference time (n % 2 ^ 32)) (omega arith) in
-    sym (outcome-is _ (past forth (past within none))) ∙ ap fine sum
+    sym (outcome-is _ (past forth (past near-by (past within none)))) ∙ ap fine sum
 
 -- ticks taken often enough: true time is real time at each of them
 pub forwards-real : {time : ℕ} {ns : List ℕ} → Often time ns → forwards time (map (λ n. n % 2 ^ 32) ns) ≡ map fine ns

@@ -25,4 +25,4 @@ pub use Rattle.event.specs.declared.events.Kind.{Kind}
 pub use Rattle.event.specs.declared.events.Known.{Known}
 pub use Rattle.event.specs.declared.events.Parts.{Parts}
 pub use Rattle.event.specs.declared.refusal.Refusal.{Refusal}
-pub use Rattle.event.specs.declared.refusal.Refusal.the-variants.{AlreadyHeld, AlreadyLive, BadStart, BitSet, ClockGoneBack, EmptySet, NoSuchJob, NoSuchResource, NoToken, NotDeclared, NotHeld, NotLive, ShortList, StartOutOfPlace, StillWaiting, TimeSpent, TurnsSpent, UnknownKind, UnknownVersion, UnsoundTable, WrongLength, WrongSize}
+pub use Rattle.event.specs.declared.refusal.Refusal.the-variants.{AlreadyHeld, AlreadyLive, BadStart, BitSet, ClockGoneBack, ClockLeap, EmptySet, NoSuchJob, NoSuchResource, NoToken, NotDeclared, NotHeld, NotLive, ShortList, StartOutOfPlace, StillWaiting, TimeSpent, TurnsSpent, UnknownKind, UnknownVersion, UnsoundTable, WrongLength, WrongSize}

@@ -1,10 +1,10 @@
 -- No two refusals share a number, and what the cases of named refusals tell.
-use Rattle.event.specs.Prelude.{_-_, _<_, AlreadyHeld, AlreadyLive, BadStart, BitSet, Bool, ClockGoneBack, EmptySet, List, NoSuchJob, NoSuchResource, NoToken, NotDeclared, NotHeld, NotLive, Refusal, ShortList, StartOutOfPlace, StillWaiting, TimeSpent, TurnsSpent, UnknownKind, UnknownVersion, UnsoundTable, WrongLength, WrongSize, [], ap, arith, cond, eqb, eqb-true, false, false≢true, first, getD, lt-ltb, positive, refl, suc, sym, true, zero, _||_, ℕ, _∙_, _∷_, _≡_}
+use Rattle.event.specs.Prelude.{_-_, _<_, AlreadyHeld, AlreadyLive, BadStart, BitSet, Bool, ClockGoneBack, ClockLeap, EmptySet, List, NoSuchJob, NoSuchResource, NoToken, NotDeclared, NotHeld, NotLive, Refusal, ShortList, StartOutOfPlace, StillWaiting, TimeSpent, TurnsSpent, UnknownKind, UnknownVersion, UnsoundTable, WrongLength, WrongSize, [], ap, arith, cond, eqb, eqb-true, false, false≢true, first, getD, lt-ltb, positive, refl, suc, sym, true, zero, _||_, ℕ, _∙_, _∷_, _≡_}
 use Rattle.event.specs.Refusals.{among, casesBy, numberOf}
 
 -- the refusals in the order of their numbers
 refusals : List Refusal
-refusals = BadStart ∷ ShortList ∷ UnsoundTable ∷ NoSuchJob ∷ ClockGoneBack ∷ TimeSpent ∷ AlreadyLive ∷ NotLive ∷ NoToken ∷ StillWaiting ∷ EmptySet ∷ NoSuchResource ∷ NotDeclared ∷ AlreadyHeld ∷ NotHeld ∷ TurnsSpent ∷ WrongLength ∷ UnknownKind ∷ BitSet ∷ StartOutOfPlace ∷ WrongSize ∷ UnknownVersion ∷ []
+refusals = BadStart ∷ ShortList ∷ UnsoundTable ∷ NoSuchJob ∷ ClockGoneBack ∷ TimeSpent ∷ AlreadyLive ∷ NotLive ∷ NoToken ∷ StillWaiting ∷ EmptySet ∷ NoSuchResource ∷ NotDeclared ∷ AlreadyHeld ∷ NotHeld ∷ TurnsSpent ∷ WrongLength ∷ UnknownKind ∷ BitSet ∷ StartOutOfPlace ∷ WrongSize ∷ UnknownVersion ∷ ClockLeap ∷ []
 
 -- the refusal so numbered
 pub refusalOf : ℕ → Refusal
@@ -34,6 +34,7 @@ refusalOf-numberOf BitSet = refl
 refusalOf-numberOf StartOutOfPlace = refl
 refusalOf-numberOf WrongSize = refl
 refusalOf-numberOf UnknownVersion = refl
+refusalOf-numberOf ClockLeap = refl
 
 -- no two refusals share a number
 pub numberOf-tells : (r s : Refusal) → numberOf r ≡ numberOf s → r ≡ s

@@ -5,7 +5,7 @@ use mathlib.Core.List.{List, [], _∷_, map}
 use lib.Dec.{eqb}
 use Rattle.laws.specs.Cases.{Case, when}
 use Rattle.event.specs.declared.refusal.Refusal.{Refusal}
-use Rattle.event.specs.declared.refusal.Refusal.the-variants.{BadStart, ShortList, UnsoundTable, NoSuchJob, ClockGoneBack, TimeSpent, AlreadyLive, NotLive, NoToken, StillWaiting, EmptySet, NoSuchResource, NotDeclared, AlreadyHeld, NotHeld, TurnsSpent, WrongLength, UnknownKind, BitSet, StartOutOfPlace, WrongSize, UnknownVersion}
+use Rattle.event.specs.declared.refusal.Refusal.the-variants.{BadStart, ShortList, UnsoundTable, NoSuchJob, ClockGoneBack, TimeSpent, AlreadyLive, NotLive, NoToken, StillWaiting, EmptySet, NoSuchResource, NotDeclared, AlreadyHeld, NotHeld, TurnsSpent, WrongLength, UnknownKind, BitSet, StartOutOfPlace, WrongSize, UnknownVersion, ClockLeap}
 
 -- the number of each refusal
 abbrev pub numberOf : Refusal → ℕ
@@ -31,6 +31,12 @@ numberOf BitSet = 19
 numberOf StartOutOfPlace = 20
 numberOf WrongSize = 21
 numberOf UnknownVersion = 22
+numberOf ClockLeap = 23
+
+-- the order in which the refusals of a call on a table, or of a record, are looked at: by number, but 23 behind 5
+abbrev pub documented : List ℕ
+documented =
+    1 ∷ 2 ∷ 3 ∷ 4 ∷ 5 ∷ 23 ∷ 6 ∷ 7 ∷ 8 ∷ 9 ∷ 10 ∷ 11 ∷ 12 ∷ 13 ∷ 14 ∷ 15 ∷ 16 ∷ 17 ∷ 18 ∷ 19 ∷ 20 ∷ []
 
 -- the case of a refusal, which applies when b is true
 abbrev pub refusing : Refusal → Bool → Case

@@ -10,6 +10,9 @@ const WRAP: u64 = 4_294_967_296;
 // From this difference on the clock has gone back: 2^31.
 const GONE_BACK: u64 = 2_147_483_648;
 
+// An hour. Above this difference the clock has leapt.
+const HOUR: u64 = 3_600_000;
+
 // The drive's millisecond counter. A type of its own, so that no turn can stand in its place.
 #[repr(C)]
 pub struct Tick(pub u32);
@@ -29,6 +32,9 @@ pub fn forward(time: u64, tick: Tick) -> Moment
     let room = HIGHEST - difference;
     if GONE_BACK <= difference {
         return Moment::No(Refusal::ClockGoneBack);
+    }
+    if HOUR < difference {
+        return Moment::No(Refusal::ClockLeap);
     }
     if room < time {
         return Moment::No(Refusal::TimeSpent);

@@ -2,7 +2,7 @@
 ghost use mathlib.Core.Path.{_≡_};
 ghost use Rattle.event.specs.Refusals.{numberOf};
 
-// In the order of their numbers, 1 to 22; a later number goes at the end.
+// In the order of their numbers, 1 to 23; a later number goes at the end.
 pub enum Refusal {
     BadStart,
     ShortList,
@@ -26,6 +26,7 @@ pub enum Refusal {
     StartOutOfPlace,
     WrongSize,
     UnknownVersion,
+    ClockLeap,
 }
 
 // The number that the documents give a refusal, to print.
@@ -55,5 +56,6 @@ pub fn number(refusal: Refusal) -> u32
         Refusal::StartOutOfPlace => 20,
         Refusal::WrongSize => 21,
         Refusal::UnknownVersion => 22,
+        Refusal::ClockLeap => 23,
     }
 }

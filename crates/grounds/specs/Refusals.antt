@@ -3,13 +3,13 @@ use Prim.Native.Nat.{ℕ, _+_}
 use mathlib.Core.Bool.{Bool, false, not}
 use mathlib.Core.List.{List}
 use lib.Dec.{eqb, leb, ltb}
-use Rattle.event.specs.Clock.{difference, goneBack, timeSpent}
+use Rattle.event.specs.Clock.{difference, goneBack, leapt, timeSpent}
 use Rattle.event.specs.Events.{described, refusalsOf}
 use Rattle.event.specs.Limits.{highest, jobs}
 use Rattle.event.specs.Refusals.{casesBy}
 use Rattle.event.specs.declared.events.Kind.{Kind}
 use Rattle.event.specs.declared.refusal.Refusal.{Refusal}
-use Rattle.event.specs.declared.refusal.Refusal.the-variants.{BadStart, ShortList, UnsoundTable, NoSuchJob, ClockGoneBack, TimeSpent, AlreadyLive, NotLive, NoToken, StillWaiting, EmptySet, NoSuchResource, NotDeclared, AlreadyHeld, NotHeld, TurnsSpent, WrongLength, UnknownKind, BitSet, StartOutOfPlace, WrongSize, UnknownVersion}
+use Rattle.event.specs.declared.refusal.Refusal.the-variants.{BadStart, ShortList, UnsoundTable, NoSuchJob, ClockGoneBack, TimeSpent, AlreadyLive, NotLive, NoToken, StillWaiting, EmptySet, NoSuchResource, NotDeclared, AlreadyHeld, NotHeld, TurnsSpent, WrongLength, UnknownKind, BitSet, StartOutOfPlace, WrongSize, UnknownVersion, ClockLeap}
 use Rattle.laws.specs.Cases.{Case}
 use Rattle.laws.specs.Sets.{below, inside, meets}
 use Rattle.rows.specs.Order.{live}
@@ -31,6 +31,7 @@ abbrev pub appliesTo : Seen → Call → Refusal → Bool
 appliesTo s c UnsoundTable = not (s .sound)
 appliesTo s c NoSuchJob = leb jobs (c .job)
 appliesTo s c ClockGoneBack = goneBack (s .time) (c .tick)
+appliesTo s c ClockLeap = leapt (s .time) (c .tick)
 appliesTo s c TimeSpent = timeSpent (s .time) (c .tick)
 appliesTo s c AlreadyLive = live (s .row)
 appliesTo s c NotLive = not (live (s .row))

@@ -19,7 +19,7 @@ use rows::Turn;
 use rows::earlier;
 use rows::live;
 
-// 3, 4, 5, 6: the table, the job and the tick; else the next true time.
+// 3, 4, then what is asked of the tick: the table, the job and the clock; else the next true time.
 pub fn enter(s: Seen, job: u32, tick: Tick) -> Moment
     ensures { λ r. ⌜ momentOf r ≡ outcome (entryCases s (calling job (tick .0) 0)) (timeFrom (s .time) (tick .0)) ⌝ }
 {

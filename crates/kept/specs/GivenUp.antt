@@ -1,5 +1,5 @@
 -- What a give up leaves, and what is left to a request that has given up all, by name.
-use Rattle.kept.specs.Prelude.{Ask, GiveUp, Open, Release, Row, Table, Tick, _<_, _∙_, _≡_, _≤_, accepted, ahead, and-false, ap, arith, case, claims, earlier, eqb-false, false, first-is, getD-set-same, givingUp, idle, inside-le, jobs, le-ltb, live, live-within, lt-leb, lt-ltb, ltb-true, meets-comm, meets-empty, next, none, not, not-false, past, refl, row-settled, rowIn, rowsWith, sound, sweptRow, sym, true, true≢false, ℕ}
+use Rattle.kept.specs.Prelude.{Ask, GiveUp, Open, Release, Row, Table, Tick, _<_, _∙_, _≡_, _≤_, accepted, ahead, and-false, ap, arith, case, claims, clockCases, earlier, eqb-false, false, first-back, first-is, getD-set-same, givingUp, idle, inside-le, jobs, le-ltb, live, live-within, lt-leb, lt-ltb, ltb-true, meets-comm, meets-empty, next, none, not, not-false, past, refl, row-settled, rowIn, rowsWith, sound, sweptRow, sym, true, true≢false, ℕ}
 use Rattle.event.specs.declared.events.Event.{Event}
 use Rattle.kept.specs.Words.{Accepts, Acts, OnlyCompletes}
 use Rattle.kept.specs.Accepted.{acts, next-accepted, passed, was-sound}
@@ -68,11 +68,8 @@ emptied-only-completes t j below is-sound lives nothing =
       give-up = λ n tick s ok.
           let off = passed n t (GiveUp j tick s) ok in
           omega (arith, eqb-false s 0 (off 11), inside-le s (r .declared) (not-false _ (off 13)));
-      complete = λ n tick long forth within.
-          sym
-          (first-is
-          (past (le-ltb n jobs long)
-          (past (ap not is-sound)
-          (past (lt-leb jobs j below)
-          (past forth (past within (past (ap not lives) (past (ap not has) (past (le-ltb 0 (r .asked) (omega arith)) none)))))))));
+      complete = λ n tick long taken.
+          let front = first-is (past (le-ltb n jobs long) (past (ap not is-sound) (past (lt-leb jobs j below) none))) in
+          let back = first-is (past (ap not lives) (past (ap not has) (past (le-ltb 0 (r .asked) (omega arith)) none))) in
+          first-back _ _ refl (sym front) ∙ first-back (clockCases (t .time) (tick .0)) _ refl taken ∙ sym back;
     }

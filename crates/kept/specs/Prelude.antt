@@ -14,7 +14,7 @@ pub use lib.ListN.{getD, length, length-set, replicate, set}
 pub use lib.Seq.{getD-set-other, getD-set-same, set-out}
 pub use Rattle.laws.specs.BoolLaws.{and-left, and-right, denied, denying, either, implied, implying}
 pub use Rattle.laws.specs.Bools.{bit}
-pub use Rattle.laws.specs.CaseLaws.{acceptance-tells, clear, refusal-tells, first-is}
+pub use Rattle.laws.specs.CaseLaws.{acceptance-tells, clear, refusal-tells, first-back, first-is}
 pub use Rattle.laws.specs.Cases.{Case, fine, keepUnless, positive, refused}
 unfoldable pub use Rattle.laws.specs.Cases.{case, first, leaves, outcome}
 pub use Rattle.laws.specs.Chains.{_and_, none, past}
@@ -26,7 +26,7 @@ pub use Rattle.laws.specs.Lists.{holds}
 pub use Rattle.laws.specs.SetLaws.{inside-empty, inside-le, inside-reads, inside-refl, inside-trans, inside-union, inside-without, meets-comm, meets-empty, meets-inside, meets-reads, meets-without, member-empty, member-without, union-empty, union-self, without-inside}
 unfoldable pub use Rattle.laws.specs.Sets.{below, inside, meets, union, without}
 pub use Rattle.laws.specs.Sets.{member}
-pub use Rattle.event.specs.Clock.{clockRefusals}
+pub use Rattle.event.specs.Clock.{clockCases, clockRefusals}
 pub use Rattle.event.specs.Events.{Role, about, actor, refusalsOf, hasJob, jobOf, names, nobody, opener, setOf, tickOf}
 pub use Rattle.event.specs.Limits.{jobs}
 pub use Rattle.event.specs.RefusalLaws.{cases-positive, first-named}

@@ -1,7 +1,7 @@
 -- Laws of numbered cases: the first that applies, and what an answer tells.
 use Rattle.laws.specs.Prelude.{_++_, _<_, Bool, List, [], ap, arith, cond, eq-eqb, eqb, eqb-true, false, false≢true, lt-irrefl, ltb, ltb-true, ne-eqb, refl, suc, true, zero, ℕ, _∙_, _∷_, _≡_, _≤_}
 use Rattle.laws.specs.BoolLaws.{and-left, and-right}
-use Rattle.laws.specs.Cases.{Case, when, first, ascends, case, Outcome, refused, fine, unless, outcome, keepUnless, leaves, positive}
+use Rattle.laws.specs.Cases.{Case, when, first, placeIn, ascends, case, Outcome, refused, fine, unless, outcome, keepUnless, leaves, positive}
 use Rattle.laws.specs.Chains.{First, none, this, past}
 
 -- ---- The first, step by step: what a chain of tests has found
@@ -75,55 +75,65 @@ module _ {A B : Type 0} (cs : List Case) (a : A) where
       go zero e = (refl, cc, λ b. refl, λ old new. refl)
       go (suc n) e = let z : _≡_ {A = ℕ} 0 1 = cc in absurd (omega arith)
 
--- ---- In ascending cases the first is the lowest
+-- ---- Of cases in an order, the first in it that applies is the one given
 
-module _ (k : ℕ) (c : Case) (cs : List Case) (up : ascends k (c ∷ cs) ≡ true) where
-  head-above : k < c .number
-  unfolding ascends
-  head-above = ltb-true k (c .number) (and-left (ltb k (c .number)) (ascends (c .number) cs) up)
+module _ (order : List ℕ) where
+  abbrev place : ℕ → ℕ
+  place = placeIn order
 
-  rest-ascends : ascends (c .number) cs ≡ true
-  unfolding ascends
-  rest-ascends = and-right (ltb k (c .number)) (ascends (c .number) cs) up
+  module _ (k : ℕ) (c : Case) (cs : List Case) (up : ascends order k (c ∷ cs) ≡ true) where
+    head-above : k < place (c .number)
+    unfolding ascends
+    head-above = ltb-true k (place (c .number)) (and-left (ltb k (place (c .number))) (ascends order (place (c .number)) cs) up)
 
--- a case that applies is numbered above k
-case-above : (k n : ℕ) (cs : List Case) → ascends k cs ≡ true → case n cs ≡ true → k < n
-unfolding case
-case-above k n [] up e = absurd (false≢true e)
-case-above k n (c ∷ cs) up e = go (eqb (c .number) n) refl e (case-above (c .number) n cs (rest-ascends k c cs up))
-  where
-    go : (b : Bool) → eqb (c .number) n ≡ b → cond b (c .applies) (case n cs) ≡ true → (case n cs ≡ true → c .number < n) → k < n
-    go true q h ih = omega (arith, head-above k c cs up, eqb-true (c .number) n q)
-    go false q h ih = omega (arith, head-above k c cs up, ih h)
+    rest-ascends : ascends order (place (c .number)) cs ≡ true
+    unfolding ascends
+    rest-ascends = and-right (ltb k (place (c .number))) (ascends order (place (c .number)) cs) up
 
--- the first is no higher than any number whose case applies
-pub first-lowest : (k n : ℕ) (cs : List Case) → ascends k cs ≡ true → case n cs ≡ true → first cs ≤ n
-unfolding case first
-first-lowest k n [] up e = absurd (false≢true e)
-first-lowest k n (c ∷ cs) up e =
-    go (eqb (c .number) n) refl (c .applies) e (first-lowest (c .number) n cs (rest-ascends k c cs up))
-  where
-    go :
-        (b : Bool) → eqb (c .number) n ≡ b → (a : Bool) → cond b a (case n cs) ≡ true → (case n cs ≡ true → first cs ≤ n) →
-        cond a (c .number) (first cs) ≤ n
-    go true q true h ih = omega (arith, eqb-true (c .number) n q)
-    go true q false h ih = absurd (false≢true h)
-    go false q true h ih = omega (arith, case-above (c .number) n cs (rest-ascends k c cs up) h)
-    go false q false h ih = ih h
+  -- a case that applies has its place above k
+  case-above : (k n : ℕ) (cs : List Case) → ascends order k cs ≡ true → case n cs ≡ true → k < place n
+  unfolding case
+  case-above k n [] up e = absurd (false≢true e)
+  case-above k n (c ∷ cs) up e =
+      go (eqb (c .number) n) refl e (case-above (place (c .number)) n cs (rest-ascends k c cs up))
+    where
+      go :
+          (b : Bool) → eqb (c .number) n ≡ b → cond b (c .applies) (case n cs) ≡ true →
+          (case n cs ≡ true → place (c .number) < place n) → k < place n
+      go true q h ih = omega (arith, head-above k c cs up, ap place (eqb-true (c .number) n q))
+      go false q h ih = omega (arith, head-above k c cs up, ih h)
 
--- the first, where there is one, is the number of a case that applies
-pub first-applies : (k : ℕ) (cs : List Case) → ascends k cs ≡ true → 0 < first cs → case (first cs) cs ≡ true
-unfolding case first
-first-applies k [] up h = absurd (lt-irrefl 0 h)
-first-applies k (c ∷ cs) up h = go (c .applies) refl h (first-applies (c .number) cs (rest-ascends k c cs up))
-  where
-    go :
-        (a : Bool) → c .applies ≡ a → 0 < cond a (c .number) (first cs) → (0 < first cs → case (first cs) cs ≡ true) →
-        cond (eqb (c .number) (cond a (c .number) (first cs))) (c .applies) (case (cond a (c .number) (first cs)) cs) ≡ true
-    go true q h ih = rw (eq-eqb (c .number) (c .number) refl) q
-    go false q h ih =
-        let later : c .number < first cs = case-above (c .number) (first cs) cs (rest-ascends k c cs up) (ih h) in
-        rw (ne-eqb (c .number) (first cs) (λ e. omega (arith, e, later))) (ih h)
+  -- no number whose case applies stands before the first
+  pub first-earliest :
+      (k n : ℕ) (cs : List Case) → ascends order k cs ≡ true → case n cs ≡ true →
+      placeIn order (first cs) ≤ placeIn order n
+  unfolding case first
+  first-earliest k n [] up e = absurd (false≢true e)
+  first-earliest k n (c ∷ cs) up e =
+      go (eqb (c .number) n) refl (c .applies) e (first-earliest (place (c .number)) n cs (rest-ascends k c cs up))
+    where
+      go :
+          (b : Bool) → eqb (c .number) n ≡ b → (a : Bool) → cond b a (case n cs) ≡ true →
+          (case n cs ≡ true → place (first cs) ≤ place n) → place (cond a (c .number) (first cs)) ≤ place n
+      go true q true h ih = omega (arith, ap place (eqb-true (c .number) n q))
+      go true q false h ih = absurd (false≢true h)
+      go false q true h ih = omega (arith, case-above (place (c .number)) n cs (rest-ascends k c cs up) h)
+      go false q false h ih = ih h
+
+  -- the first, where there is one, is the number of a case that applies
+  pub first-applies :
+      (k : ℕ) (cs : List Case) → ascends order k cs ≡ true → 0 < first cs → case (first cs) cs ≡ true
+  unfolding case first
+  first-applies k [] up h = absurd (lt-irrefl 0 h)
+  first-applies k (c ∷ cs) up h = go (c .applies) refl h (first-applies (place (c .number)) cs (rest-ascends k c cs up))
+    where
+      go :
+          (a : Bool) → c .applies ≡ a → 0 < cond a (c .number) (first cs) → (0 < first cs → case (first cs) cs ≡ true) →
+          cond (eqb (c .number) (cond a (c .number) (first cs))) (c .applies) (case (cond a (c .number) (first cs)) cs) ≡ true
+      go true q h ih = rw (eq-eqb (c .number) (c .number) refl) q
+      go false q h ih =
+          let later = case-above (place (c .number)) (first cs) cs (rest-ascends k c cs up) (ih h) in
+          rw (ne-eqb (c .number) (first cs) (λ e. omega (arith, ap place e, later))) (ih h)
 
 -- ---- Where numbers are positive, no first means that no case applies
 

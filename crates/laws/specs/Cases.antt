@@ -1,5 +1,5 @@
 -- Numbered cases in the order in which they are looked at, and the first that applies.
-use Prim.Native.Nat.{ℕ, zero, suc}
+use Prim.Native.Nat.{ℕ, _+_, zero, suc}
 use mathlib.Core.Bool.{Bool, true, false, cond, _&&_}
 use mathlib.Core.List.{List, [], _∷_}
 use lib.Dec.{ltb, eqb}
@@ -18,14 +18,19 @@ unfoldable pub first : List Case → ℕ
 first [] = 0
 first (c ∷ cs) = cond (c .applies) (c .number) (first cs)
 
--- the numbers ascend, from above k on
-unfoldable pub ascends : ℕ → List Case → Bool
-ascends k [] = true
-ascends k (c ∷ cs) = ltb k (c .number) && ascends (c .number) cs
+-- the place of a number in an order of numbers, from 1 on
+abbrev pub placeIn : List ℕ → ℕ → ℕ
+placeIn [] n = 1
+placeIn (m ∷ order) n = cond (eqb m n) 1 (1 + placeIn order n)
 
--- the numbers are positive and ascend
-abbrev pub ascending : List Case → Bool
-ascending cs = ascends 0 cs
+-- the places of the numbers ascend, from above k on
+unfoldable pub ascends : List ℕ → ℕ → List Case → Bool
+ascends order k [] = true
+ascends order k (c ∷ cs) = ltb k (placeIn order (c .number)) && ascends order (placeIn order (c .number)) cs
+
+-- the cases stand in that order
+abbrev pub follows : List ℕ → List Case → Bool
+follows order cs = ascends order 0 cs
 
 -- every number is positive, so that 0 stands for no case
 abbrev pub positive : List Case → Bool

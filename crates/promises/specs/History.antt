@@ -3,6 +3,7 @@ pub mod Count
 pub mod Events
 pub mod Partings
 pub mod Row
+pub mod Time
 pub mod Turn
 pub mod Woken
 pub mod Words

@@ -1,5 +1,5 @@
 -- The names from outside that this crate uses, passed on by one module; those of `kept` are cited from there.
-pub use Prim.Native.Nat.{_+_, _-_, _<_, _≤_, suc, zero, ℕ}
+pub use Prim.Native.Nat.{_%_, _+_, _-_, _<_, _^_, _≤_, suc, zero, ℕ}
 pub use mathlib.Core.Bool.{Bool, _&&_, _||_, and-false, and-not-self, and-true, cond, false, false≢true, not, true, true≢false}
 pub use mathlib.Core.List.{List, [], _++_, _∷_, map, map-map}
 pub use mathlib.Core.Path.{_∙_, _≡_, ap, ap₂, fun-ext, refl, subst, sym}
@@ -21,16 +21,16 @@ unfoldable pub use Rattle.laws.specs.Lists.{all, count, gone}
 pub use Rattle.laws.specs.SetLaws.{inside-reads, meets-comm, meets-inside, meets-reads, meets-without, union-empty, without-apart, without-inside, without-lost, without-none, without-twice}
 unfoldable pub use Rattle.laws.specs.Sets.{below, inside, meet, meets, union, without}
 pub use Rattle.laws.specs.Sets.{member}
-pub use Rattle.event.specs.Clock.{difference, goneBack, timeSpent}
+pub use Rattle.event.specs.Clock.{clockRefusals, difference, goneBack, leapt, timeSpent}
 unfoldable pub use Rattle.event.specs.Clock.{forward}
 pub use Rattle.event.specs.Events.{about, refusalsOf, hasJob, jobOf, names, opens, setOf, tickOf}
-pub use Rattle.event.specs.Limits.{jobs}
+pub use Rattle.event.specs.Limits.{highest, jobs}
 pub use Rattle.event.specs.RefusalLaws.{some-first}
 pub use Rattle.event.specs.Refusals.{among, casesBy, numberOf, refusing}
 pub use Rattle.event.specs.declared.clock.Tick.{Tick}
 pub use Rattle.event.specs.declared.events.Event.the-variants.{Ask, Beat, Complete, GiveUp, Open, Release}
 pub use Rattle.event.specs.declared.refusal.Refusal.{Refusal}
-pub use Rattle.event.specs.declared.refusal.Refusal.the-variants.{AlreadyHeld, AlreadyLive, BadStart, BitSet, ClockGoneBack, EmptySet, NoSuchJob, NoSuchResource, NoToken, NotDeclared, NotHeld, NotLive, ShortList, StartOutOfPlace, StillWaiting, TimeSpent, TurnsSpent, UnknownKind, UnknownVersion, UnsoundTable, WrongLength, WrongSize}
+pub use Rattle.event.specs.declared.refusal.Refusal.the-variants.{AlreadyHeld, AlreadyLive, BadStart, BitSet, ClockGoneBack, ClockLeap, EmptySet, NoSuchJob, NoSuchResource, NoToken, NotDeclared, NotHeld, NotLive, ShortList, StartOutOfPlace, StillWaiting, TimeSpent, TurnsSpent, UnknownKind, UnknownVersion, UnsoundTable, WrongLength, WrongSize}
 pub use Rattle.rows.specs.InLine.{lined-in-turn, listed-once}
 pub use Rattle.rows.specs.InWay.{ahead-mono, in-way-ahead}
 unfoldable pub use Rattle.rows.specs.Line.{keep, lined, place, under}

@@ -1,11 +1,11 @@
--- The sessions that document 01 marks P, as one table of claims about the meanings, each by computation.
-use Rattle.promises.specs.Prelude.{Ask, Complete, Open, Release, Table, Tick, [], ahead, all, answer, below, count, course, distinct, encode, false, fine, first, forward, under, inWay, inside, jobs, keep, late, lateIn, leaves, lined, meet, meets, next, outcome, overdue, place, refl, refused, report, run, saysWait, settled, sound, startTable, true, union, wakes, without, woken, ℕ, _∷_, _≡_}
+-- The sessions that document 01 marks P, with P3 and two more as document 02 [4] has them, as one table of claims about the meanings, each by computation.
+use Rattle.promises.specs.Prelude.{_+_, _-_, Ask, Complete, Open, Release, Table, Tick, [], ahead, all, answer, below, count, course, distinct, encode, false, fine, first, forward, under, highest, inWay, inside, jobs, keep, late, lateIn, leaves, lined, meet, meets, next, outcome, overdue, place, refl, refused, report, run, saysWait, settled, sound, startTable, true, union, wakes, without, woken, ℕ, _∷_, _≡_}
 use Rattle.event.specs.declared.events.Entry.the-variants.{Event}
 use Rattle.record.specs.Worked as Record
 
--- the sessions marked P
+-- the sessions marked P, and a leap, also where true time would pass the highest
 pub data Session : Type 0 where
-  P1 P2 P3 P4 P5 P6 P7 P8 P9 P10 P11 P12 : Session
+  P1 P2 P3 P4 P5 P6 P7 P8 P9 P10 P11 P12 leap last-leap : Session
 
 -- the tick of that number
 abbrev at : ℕ → Tick
@@ -25,7 +25,7 @@ oneToken = run (startTable 1 1 0 50) (Open 1 (at 1) 1 ∷ Open 2 (at 2) 1 ∷ []
 abbrev pub Claim : Session → Type 0
 Claim P1 = encode (Event (Open 5 (at 16909060) 9)) ≡ 0x22 ∷ 0x80 ∷ 1 ∷ 2 ∷ 3 ∷ 4 ∷ 0 ∷ 0 ∷ 0 ∷ 0 ∷ 0 ∷ 0 ∷ 0 ∷ 9 ∷ []
 Claim P2 = forward 4294967282 5 ≡ fine 4294967301
-Claim P3 = forward 4294967282 2147483633 ≡ fine 6442450929
+Claim P3 = forward 4294967282 3599986 ≡ fine (4294967282 + 3600000)
 Claim P4 = forward 4294967282 2147483634 ≡ refused 5
 Claim P5 = forward 4294967282 4294967282 ≡ fine 4294967282
 Claim P6 = (overdue jobs wrapping 35 ≡ fine 0) × (late wrapping 35 ≡ [])
@@ -43,8 +43,10 @@ Claim P12 =
     (run (startTable 2 2 0 50) (Open 1 (at 1) 3 ∷ Open 2 (at 2) 1 ∷ Ask 1 (at 3) 1 ∷ Release 1 (at 4) 1 ∷ []))
     (Ask 2 (at 5) 1)
     ≡ fine saysWait
+Claim leap = forward 4294967282 3599987 ≡ refused 23
+Claim last-leap = (forward (highest - 5) 3599995 ≡ refused 23) × (forward (highest - 5) 3599994 ≡ refused 6)
 
--- every session turns out as document 01 says
+-- every session turns out as the documents say
 pub worked : (session : Session) → Claim session
 unfolding startTable course next answer report overdue lateIn forward outcome leaves first sound distinct ahead inWay count all meets meet union without inside below settled woken keep lined place under
 worked P1 = Record.recorded
@@ -59,3 +61,5 @@ worked P9 = refl
 worked P10 = refl
 worked P11 = refl
 worked P12 = refl
+worked leap = refl
+worked last-leap = (refl, refl)

@@ -19,7 +19,7 @@ use grounds::turn_verdict;
 use request::Seen;
 use rows::live;
 
-// 3, 5, 6: the refusals of a beat are those of an entry. It names no job; job 0 stands in, of which 4 is not told.
+// The refusals of a beat are those of an entry. It names no job; job 0 stands in, of which 4 is not told.
 pub fn clock_verdict(s: Seen, tick: Tick) -> Moment
     ensures { λ r. ⌜ momentOf r ≡ outcome (eventCases s (calling 0 (tick .0) 0) Beat) (timeFrom (s .time) (tick .0)) ⌝ }
 {

@@ -1,6 +1,6 @@
 -- What is the same on two tables that agree up to turn n: the row of each request up to n, who stands before it, what is in
 -- its way, and so what it is answered.
-use Rattle.promises.specs.Prelude.{_&&_, _+_, _<_, AlreadyHeld, AlreadyLive, BadStart, BitSet, Bool, Case, ClockGoneBack, EmptySet, List, NoSuchJob, NoSuchResource, NoToken, NotDeclared, NotHeld, NotLive, Open, Outcome, Refusal, Row, Said, ShortList, StartOutOfPlace, StillWaiting, Table, Tick, TimeSpent, TurnsSpent, UnknownKind, UnknownVersion, UnsoundTable, WrongLength, WrongSize, [], about, ahead, among, and-left, answer, ap, applies, arith, below, blocked, calling, casesBy, difference, earlier, earlier-turn, eqb, false, fine, first, first-front, goneBack, hasJob, inWay, inside, jobOf, jobs, leb, live, lt-irrefl, ltb, meets, not, numberOf, outcome, refl, refused, refusing, report, rowIn, rowOf, said, saysDone, saysGranted, saysToken, saysWait, saysWoke, some-first, sound, suc, sym, timeAt, timeSpent, true, true≢false, unless, when, zero, _||_, ℕ, _∙_, _∷_, _≡_, _≤_}
+use Rattle.promises.specs.Prelude.{_&&_, _+_, _++_, _<_, AlreadyHeld, AlreadyLive, BadStart, BitSet, Bool, Case, ClockGoneBack, ClockLeap, EmptySet, List, NoSuchJob, NoSuchResource, NoToken, NotDeclared, NotHeld, NotLive, Open, Outcome, Refusal, Row, Said, ShortList, StartOutOfPlace, StillWaiting, Table, Tick, TimeSpent, TurnsSpent, UnknownKind, UnknownVersion, UnsoundTable, WrongLength, WrongSize, [], about, ahead, among, and-left, answer, ap, applies, arith, below, blocked, calling, casesBy, clockRefusals, difference, earlier, earlier-turn, eqb, false, fine, first, first-front, goneBack, hasJob, inWay, inside, jobOf, jobs, leapt, leb, live, lt-irrefl, ltb, meets, not, numberOf, outcome, refl, refused, refusing, report, rowIn, rowOf, said, saysDone, saysGranted, saysToken, saysWait, saysWoke, some-first, sound, suc, sym, timeAt, timeSpent, true, true≢false, unless, when, zero, _||_, ℕ, _∙_, _∷_, _≡_, _≤_}
 use Rattle.event.specs.declared.events.Event.{Event}
 use Rattle.promises.specs.History.Words.{isFine}
 use Rattle.kept.specs.Sound.Words.{seen}
@@ -67,6 +67,7 @@ module _ {n : ℕ} {t u : Table} (a : Agree n t u) where
       same-applies tick s UnsoundTable q = ap not (sound-t ∙ sym sound-u)
       same-applies tick s NoSuchJob q = refl
       same-applies tick s ClockGoneBack q = ap (λ (time : ℕ). goneBack time tick) (a .time)
+      same-applies tick s ClockLeap q = ap (λ (time : ℕ). leapt time tick) (a .time)
       same-applies tick s TimeSpent q = ap (λ (time : ℕ). timeSpent time tick) (a .time)
       same-applies tick s AlreadyLive q = ap live same-row
       same-applies tick s NotLive q = ap (λ (r : Row). not (live r)) same-row
@@ -106,7 +107,7 @@ module _ {n : ℕ} {t u : Table} (a : Agree n t u) where
       unfolding answer outcome
       same-open tick s =
           let c = calling j (tick .0) s in
-          let front : List Refusal = UnsoundTable ∷ NoSuchJob ∷ ClockGoneBack ∷ TimeSpent ∷ AlreadyLive ∷ [] in
+          let front : List Refusal = UnsoundTable ∷ NoSuchJob ∷ clockRefusals ++ AlreadyLive ∷ [] in
           let lives = and-left (live (rowIn t j)) (ltb turn (n + 1)) in-t in
           let some-t = some-first (applies t c) front AlreadyLive refl lives in
           let some-u = some-first (applies u c) front AlreadyLive refl (ap live (sym same-row) ∙ lives) in

@@ -69,10 +69,14 @@ returns-21 c = rw (c .enum-told21 .given .1)
 returns-22 : tie.Need-returns-22
 returns-22 c = rw (c .enum-told22 .given .1)
 
+returns-23 : tie.Need-returns-23
+returns-23 c = rw (c .enum-told23 .given .1)
+
 pub number-spec : {M : Type 1} → statement M
 number-spec =
     tie.close
     (tie.spec
+    (λ c. search needs)
     (λ c. search needs)
     (λ c. search needs)
     (λ c. search needs)
@@ -116,4 +120,5 @@ number-spec =
     returns-19
     returns-20
     returns-21
-    returns-22)
+    returns-22
+    returns-23)
