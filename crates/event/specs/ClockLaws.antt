@@ -11,16 +11,16 @@ forward-low time tick n h e =
     let sum = acceptance-tells {B = ℕ} (clockCases time tick) (time + difference time tick) n e .1 in
     omega arith
 
--- the difference to the tick of a real time that is at most an hour on leads there
-pub moved-on : (time n : ℕ) → time ≤ n → n ≤ time + hour → time + difference time (n % 2 ^ 32) ≡ n
+-- the difference to the tick of a real time less than a round of the counter on leads there
+pub moved-on : (time n : ℕ) → time ≤ n → n < time + 2 ^ 32 → time + difference time (n % 2 ^ 32) ≡ n
 moved-on time n low near = omega arith
 
--- so that tick gives that time
+-- the tick of a real time that is at most an hour on gives that time
 pub forward-real :
     (time n : ℕ) → time ≤ n → n ≤ time + hour → n ≤ highest → forward time (n % 2 ^ 32) ≡ fine n
 unfolding forward
 forward-real time n low near last =
-    let sum = moved-on time n low near in
+    let sum = moved-on time n low (omega arith) in
     let forth = lt-leb (2 ^ 31) (difference time (n % 2 ^ 32)) (omega arith) in
     let near-by = le-ltb hour (difference time (n % 2 ^ 32)) (omega arith) in
     let within = le-ltb highest (time + difference time (n % 2 ^ 32)) (omega arith) in

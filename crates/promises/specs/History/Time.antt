@@ -36,5 +36,5 @@ time-is-real t (e ∷ es) ns ticks often =
     go (n ∷ ns) ticks (then soon near last often) more =
         let tick : tickOf e ≡ low n = cc in
         let rest : map tickOf (heeded u es) ≡ map low ns = cc in
-        let is : u .time ≡ n = ap (timeAt t) tick ∙ moved-on (t .time) n soon near in
+        let is : u .time ≡ n = ap (timeAt t) tick ∙ moved-on (t .time) n soon (omega (arith, near)) in
         rw (sym is) (more ns rest (rw is often))
