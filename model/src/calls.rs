@@ -3,12 +3,14 @@
 //! ```text
 //! CALL : ANSWER
 //! write ROOM CALL : ANSWER
+//! time TIME
 //! ```
 //!
 //! A call is said as in a recording (`lines`), and may have numbers that no record
 //! carries. It is made on the table that the calls before it lead to. `write` does
-//! not make the call but writes its record, into a room of so many bytes. An answer
-//! is one of these, and commas are for the reader:
+//! not make the call but writes its record, into a room of so many bytes. `time` is no
+//! call: the table's true time becomes that, to which no row of calls would lead. An
+//! answer is one of these, and commas are for the reader:
 //!
 //! ```text
 //! no NUMBER
@@ -27,8 +29,13 @@ use crate::probe;
 use crate::table::Table;
 use std::io;
 
+enum Line {
+    Call(Box<Answered>),
+    Time(u64),
+}
+
 /// One call, with what it must answer and what must be at the front of what is lent.
-struct Line {
+struct Answered {
     case: Case,
     answer: Answer,
     front: Vec<u8>,
@@ -55,11 +62,18 @@ fn steps(text: &str) -> io::Result<Vec<(Case, Outcome)>> {
     let mut table = Table::zero();
     let mut steps = Vec::new();
     for line in lines::each(text, line) {
-        let Line {
+        let called = match line? {
+            Line::Call(called) => *called,
+            Line::Time(time) => {
+                table.time = time;
+                continue;
+            }
+        };
+        let Answered {
             mut case,
             answer: said,
             front,
-        } = line?;
+        } = called;
         if !matches!(case.call, Call::Start | Call::WriteStart) {
             case.table = table.clone();
         }
@@ -80,6 +94,13 @@ fn steps(text: &str) -> io::Result<Vec<(Case, Outcome)>> {
 }
 
 fn line(words: &[&str]) -> Option<Line> {
+    if let ["time", time] = *words {
+        return number(time).map(Line::Time);
+    }
+    answered(words).map(|called| Line::Call(Box::new(called)))
+}
+
+fn answered(words: &[&str]) -> Option<Answered> {
     let mark = words.iter().position(|word| *word == ":")?;
     let case = called(&words[..mark])?;
     let said: Vec<&str> = words[mark + 1..]
@@ -87,7 +108,7 @@ fn line(words: &[&str]) -> Option<Line> {
         .map(|word| word.trim_end_matches(','))
         .collect();
     let (answer, front) = said_by(&said)?;
-    (front.len() <= usize::from(case.room)).then_some(Line {
+    (front.len() <= usize::from(case.room)).then_some(Answered {
         case,
         answer,
         front,

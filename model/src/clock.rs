@@ -9,6 +9,9 @@ const WRAP: u64 = 1 << 32;
 /// Forward differences from here on mean that the clock went back.
 const BACK: u64 = 1 << 31;
 
+/// The longest forward difference that is taken; a longer one is a leap.
+pub const HOUR: u64 = 3_600_000;
+
 /// Milliseconds from true time forward to the next moment that shows this tick.
 pub fn forward(time: u64, tick: u32) -> u64 {
     (u64::from(tick) + WRAP - time % WRAP) % WRAP
@@ -16,6 +19,11 @@ pub fn forward(time: u64, tick: u32) -> u64 {
 
 pub fn gone_back(time: u64, tick: u32) -> bool {
     forward(time, tick) >= BACK
+}
+
+/// Whatever went back leaps too: each is judged by itself.
+pub fn leaps(time: u64, tick: u32) -> bool {
+    forward(time, tick) > HOUR
 }
 
 /// Wide arithmetic, because a damaged table may hold any time.
@@ -26,6 +34,16 @@ pub fn passes_top(time: u64, tick: u32) -> bool {
 /// True time after an accepted tick.
 pub fn moved(time: u64, tick: u32) -> u64 {
     time + forward(time, tick)
+}
+
+/// How often the counter has begun again by this time.
+pub fn wraps(time: u64) -> u64 {
+    time / WRAP
+}
+
+/// The last moment, from this time on, before the counter begins again.
+pub fn last_before_wrap(time: u64) -> u64 {
+    time - time % WRAP + WRAP - 1
 }
 
 /// The tick that the drive's counter shows this many milliseconds after `time`.

@@ -199,7 +199,7 @@ fn the_order_of_refusals() {
         table: waiting_table(),
     };
     assert_eq!(answer(&case).answer.to_string(), "woke 1");
-    let faults: [(u8, fn(&mut Case)); 11] = [
+    let faults: [(u8, fn(&mut Case)); 12] = [
         (13, |case| case.set = 4),
         (12, |case| case.set += 8),
         (11, |case| case.set = 0),
@@ -207,6 +207,7 @@ fn the_order_of_refusals() {
         (9, |case| case.job = 3),
         (8, |case| case.job = 4),
         (6, |case| case.table.time = TOP),
+        (23, |case| case.tick = 3_600_000),
         (5, |case| case.tick = 1 << 31),
         (4, |case| case.job = 64),
         (3, |case| case.table.limit = 0),

@@ -47,6 +47,8 @@ mod flips;
 mod give_up_sessions;
 mod history;
 mod layout;
+#[cfg(test)]
+mod leap_sessions;
 mod lines;
 mod probe;
 mod random;

@@ -1,5 +1,5 @@
 //! Which refusals apply to a call. Each case is judged by itself, so that those
-//! that apply together can be counted; the lowest is the one given.
+//! that apply together can be counted; the first in the call's order is the one given.
 //!
 //! A job without a live request, one above 63 too, counts as one that has no
 //! token and declares, holds and asks nothing.
@@ -12,17 +12,18 @@ use crate::set::{from_number, Set};
 use crate::sound;
 use crate::table::JOBS;
 
-/// The refusals a call can give, in rising order.
+/// The refusals a call can give, in the order in which they are looked at. The numbers
+/// rise, but for 23: a leap comes behind 5 and before 6 (document 02, request 4).
 pub fn listed(call: Call) -> &'static [u8] {
     match call {
-        Call::Beat => &[3, 5, 6],
-        Call::Open => &[3, 4, 5, 6, 7, 11, 12, 16],
-        Call::Ask => &[3, 4, 5, 6, 8, 9, 10, 11, 12, 13, 14],
-        Call::Release => &[3, 4, 5, 6, 8, 9, 10, 11, 12, 15],
-        Call::Complete => &[2, 3, 4, 5, 6, 8, 9, 10],
-        Call::GiveUp => &[2, 3, 4, 5, 6, 8, 9, 10, 11, 12, 13],
+        Call::Beat => &[3, 5, 23, 6],
+        Call::Open => &[3, 4, 5, 23, 6, 7, 11, 12, 16],
+        Call::Ask => &[3, 4, 5, 23, 6, 8, 9, 10, 11, 12, 13, 14],
+        Call::Release => &[3, 4, 5, 23, 6, 8, 9, 10, 11, 12, 15],
+        Call::Complete => &[2, 3, 4, 5, 23, 6, 8, 9, 10],
+        Call::GiveUp => &[2, 3, 4, 5, 23, 6, 8, 9, 10, 11, 12, 13],
         Call::Report => &[3, 4, 8],
-        Call::Overdue => &[2, 3, 5, 6],
+        Call::Overdue => &[2, 3, 5, 23, 6],
         Call::Start => &[1],
         // A beat names no job, so there is none to refuse.
         Call::WriteBeat => &[17],
@@ -35,7 +36,7 @@ pub fn listed(call: Call) -> &'static [u8] {
     }
 }
 
-/// All refusals that apply to this case, in rising order.
+/// All refusals that apply to this case, the one given first.
 pub fn applying(case: &Case) -> impl Iterator<Item = u8> + '_ {
     let arbiter = Arbiter::of(&case.table);
     let listed = listed(case.call).iter().copied();
@@ -50,6 +51,7 @@ fn applies(number: u8, case: &Case, arbiter: &Arbiter) -> bool {
         3 => !sound::is_sound_in(table, arbiter),
         4 => case.job >= JOBS as u32,
         5 => clock::gone_back(table.time, case.tick),
+        23 => clock::leaps(table.time, case.tick),
         6 => clock::passes_top(table.time, case.tick),
         7..=10 => request_refuses(number, case, arbiter),
         11..=15 => set_refuses(number, case, arbiter),

@@ -4,7 +4,7 @@ use crate::answer::{answer, Answer, Outcome, Report};
 use crate::arbiter::Arbiter;
 use crate::calls;
 use crate::case::{Call, Case, CALLS, CASE};
-use crate::clock::{forward, TOP};
+use crate::clock::{forward, HOUR, TOP};
 use crate::drive::{self, Style};
 use crate::lines;
 use crate::probe;
@@ -53,7 +53,7 @@ impl Session {
         self.call(Call::Ask, job, tick, set)
     }
 
-    fn beat(&mut self, tick: u32) -> String {
+    pub fn beat(&mut self, tick: u32) -> String {
         self.call(Call::Beat, 0, tick, &[])
     }
 
@@ -109,11 +109,11 @@ fn p3_p4_p5_the_longest_and_the_shortest_step() {
         let mut session = Session::start(1, 1, start, 50);
         assert_eq!(session.beat(start.wrapping_add(1 << 31)), "no 5");
         assert_eq!(session.0.time, u64::from(start));
-        assert_eq!(session.beat(start.wrapping_add((1 << 31) - 1)), "done");
-        assert_eq!(session.0.time, u64::from(start) + (1 << 31) - 1);
+        assert_eq!(session.beat(start.wrapping_add(3_600_000)), "done");
+        assert_eq!(session.0.time, u64::from(start) + 3_600_000);
         let tick = session.0.time as u32;
         assert_eq!(session.beat(tick), "done");
-        assert_eq!(session.0.time, u64::from(start) + (1 << 31) - 1);
+        assert_eq!(session.0.time, u64::from(start) + 3_600_000);
     }
 }
 
@@ -316,7 +316,7 @@ fn the_end_of_time_and_of_turns() {
 fn walk(seed: u64, jobs: u64, mut check: impl FnMut(&Case, &Outcome)) {
     let style = Style {
         jobs,
-        steps: &[0, 1, 2, 1000, (1 << 31) - 1, 1 << 31],
+        steps: &[0, 0, 1, 1, 2, 2, 1000, 1000, HOUR, HOUR, HOUR + 1, 1 << 31],
         wild: 5,
     };
     let mut random = Random::new(seed);
@@ -435,10 +435,11 @@ fn lines_stand_for_records_and_questions() {
     }
 }
 
-const CALLS_BY_HAND: [&str; 3] = [
+const CALLS_BY_HAND: [&str; 4] = [
     include_str!("../../tests/calls/sessions.calls"),
     include_str!("../../tests/calls/clock.calls"),
     include_str!("../../tests/calls/give-up.calls"),
+    include_str!("../../tests/calls/leap.calls"),
 ];
 
 /// Whether the probe prints just the answers that are written by hand.
@@ -485,6 +486,8 @@ fn a_wrong_answer_by_hand_is_found() {
             let Some((call, said)) = line.split_once(" : ") else {
                 continue;
             };
+            // What is said to the reader is no answer.
+            let said = said.split('#').next().unwrap_or("");
             for (right, wrong) in MISTAKES {
                 let answer = said.replacen(right, wrong, 1);
                 let mistaken = format!("{call} : {answer}");
@@ -516,6 +519,9 @@ fn a_call_by_hand_has_an_answer() {
         "write 15 report 1 : no 4",
         "write 1 beat 0 : wrote 1 2",
         "bytes 0 : no 17",
+        "time",
+        "time -1",
+        "time 1 : done",
     ] {
         assert!(calls::cases(wrong).is_err(), "{wrong}");
         assert!(calls::answers(wrong).is_err(), "{wrong}");

@@ -106,10 +106,10 @@ fn name(call: Call, answer: &Answer) -> String {
     }
 }
 
-/// Why a call that gives the lower one can't have the higher one apply as well.
+/// Why a call that gives the first one can't have the second one apply as well.
 /// All other pairs within the list of one call can be met.
-fn never_together(low: u8, high: u8) -> Option<&'static str> {
-    match (low, high) {
+fn never_together(first: u8, second: u8) -> Option<&'static str> {
+    match (first, second) {
         (4, 7 | 10 | 14) => Some("a job above 63 has no row to be live, ask or hold"),
         (8, 10 | 14) => Some("in a sound table idle rows ask and hold nothing"),
         (9, 10 | 14) => Some("in a sound table nobody asks or holds without a token"),
@@ -118,12 +118,12 @@ fn never_together(low: u8, high: u8) -> Option<&'static str> {
     }
 }
 
-/// The pairs of refusals in a call's list, the lower one first.
+/// The pairs of refusals in a call's list, the one that is given first.
 fn pairs(call: Call) -> Vec<(u8, u8)> {
     let listed = refuse::listed(call);
     let mut pairs = Vec::new();
-    for (place, &low) in listed.iter().enumerate() {
-        pairs.extend(listed[place + 1..].iter().map(|&high| (low, high)));
+    for (place, &first) in listed.iter().enumerate() {
+        pairs.extend(listed[place + 1..].iter().map(|&second| (first, second)));
     }
     pairs
 }
@@ -136,9 +136,9 @@ fn expected_of_cases() -> Vec<String> {
     }
     for call in CALLS {
         let mut pairs = pairs(call);
-        pairs.retain(|&(low, high)| never_together(low, high).is_none());
+        pairs.retain(|&(first, second)| never_together(first, second).is_none());
         let pairs = pairs.iter();
-        expected.extend(pairs.map(|(low, high)| format!("together {call} {low} {high}")));
+        expected.extend(pairs.map(|(first, second)| format!("together {call} {first} {second}")));
     }
     expected.extend(sound::clauses().map(|clause| format!("only broken {clause}")));
     expected.extend(traps::TRAPS.map(|trap| format!("trap {trap}")));
@@ -189,9 +189,9 @@ pub fn of_cases(rows: &[Vec<u8>], mut out: impl Write) -> io::Result<bool> {
         }
     }
     for call in CALLS {
-        for (low, high) in pairs(call) {
-            if let Some(reason) = never_together(low, high) {
-                writeln!(out, "never together {call} {low} {high}: {reason}")?;
+        for (first, second) in pairs(call) {
+            if let Some(reason) = never_together(first, second) {
+                writeln!(out, "never together {call} {first} {second}: {reason}")?;
             }
         }
     }
