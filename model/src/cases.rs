@@ -2,7 +2,7 @@
 
 use crate::arbiter::{Arbiter, Request};
 use crate::case::{Call, Case, CALLS, CASE};
-use crate::clock::{self, TOP};
+use crate::clock::{self, HOUR, TOP};
 use crate::random::Random;
 use crate::set::{to_number, Set};
 use crate::table::{Table, JOBS};
@@ -240,19 +240,20 @@ fn idle(random: &mut Random, arbiter: &Arbiter) -> u32 {
     random.member(&idle).map_or(0, u32::from)
 }
 
-/// Small steps, the edges of the clock, of its wrap, of its end and of somebody's limit,
-/// or any.
+/// Small steps, the edges of a leap, of the clock's half, of its wrap, of its end and of
+/// somebody's limit, or any.
 fn tick(random: &mut Random, arbiter: &Arbiter) -> u32 {
     let time = arbiter.time;
     let any = random.number();
     let edge = 1 << 31;
     let end = TOP.wrapping_sub(time);
-    let step = match random.below(9) {
+    let step = match random.below(16) {
         0 => random.pick(&[edge - 1, edge, edge + 1, 2 * edge - 1, any]),
         1 => random.pick(&[end, end.wrapping_add(1), end.wrapping_sub(1)]),
         2 => time_up(random, arbiter).wrapping_sub(time),
         3 => time_up(random, arbiter).wrapping_sub(time).wrapping_sub(1),
         4 => (2 * edge).wrapping_sub(time) % (2 * edge),
+        5..=6 => random.pick(&[HOUR - 1, HOUR, HOUR, HOUR, HOUR + 1, 3 * HOUR]),
         _ => random.pick(&[0, 1, 2, 1000]),
     };
     clock::tick_after(time, step)

@@ -1,6 +1,7 @@
 //! Counts what recordings reach, and names what they never do.
 
 use crate::case::EVENTS;
+use crate::clock;
 use crate::history::{History, HAPPENINGS};
 use crate::record::{self, Record};
 use crate::refuse;
@@ -12,6 +13,8 @@ use std::io::{self, Write};
 /// bits, the replay lends a long list, its tables are sound, and the end of time
 /// and of turns is too many records away.
 const NOT_IN_REPLAY: [u8; 5] = [2, 3, 4, 6, 16];
+
+const OVER_THE_WRAP: &str = "over the wrap";
 
 fn expected() -> Vec<String> {
     let answers = [
@@ -41,6 +44,7 @@ fn expected() -> Vec<String> {
         expected.extend(met.map(|number| format!("{call} no {number}")));
     }
     expected.extend(HAPPENINGS.map(String::from));
+    expected.push(OVER_THE_WRAP.to_string());
     expected
 }
 
@@ -86,6 +90,13 @@ fn happened(history: &mut History, step: &Step) -> Vec<&'static str> {
     }
 }
 
+/// Whether the counter has begun again by this record, so often having been known.
+fn over_the_wrap(wraps: &mut Option<u64>, step: &Step) -> Option<&'static str> {
+    let now = step.table.map(|table| clock::wraps(table.time));
+    let before = std::mem::replace(wraps, now);
+    (before.is_some() && before != now).then_some(OVER_THE_WRAP)
+}
+
 /// Counts what the listings of these recordings say of each kind of record, and what
 /// happened along them.
 pub fn of_recordings(recordings: &[Vec<u8>], mut out: impl Write) -> io::Result<bool> {
@@ -93,11 +104,13 @@ pub fn of_recordings(recordings: &[Vec<u8>], mut out: impl Write) -> io::Result<
     let mut counted = 0_u64;
     for recording in recordings {
         let mut history = History::default();
+        let mut wraps = None;
         walk(recording.as_slice(), |step| {
             counted += 1;
             let mut met = vec![name_record(step)];
             met.extend(together(step));
             met.extend(happened(&mut history, step).into_iter().map(String::from));
+            met.extend(over_the_wrap(&mut wraps, step).map(String::from));
             met.into_iter().for_each(|what| tally.count(what));
             Ok(())
         })?;

@@ -1,5 +1,6 @@
 //! Makes recordings.
 
+use crate::clock::HOUR;
 use crate::drive::{self, Style};
 use crate::random::Random;
 use crate::record::{self, Record, LENGTH};
@@ -14,15 +15,24 @@ const LINE: u64 = 20 + 3 + 4 * JOBS as u64 + 1;
 /// longest lines in 65,536 bytes.
 pub const BLOCK: u64 = 65_536 / LINE;
 
-const CALM: &[u64] = &[0, 0, 0, 1, 1, 2, 3, 40, 1000];
+const CALM: &[u64] = &[0, 0, 0, 1, 1, 2, 3, 40, 1000, HOUR];
 
-/// Around half the counter, where a clock turns from forward to back; the last
-/// of these is one tick back.
-const HALVES: &[u64] = &[
+/// Mostly hours, so that a wrap comes along, and the edges: a longer step is a leap, up
+/// to half the counter, where the clock turns from forward to back. The last of these is
+/// one tick back.
+const EDGES: &[u64] = &[
     0,
     1,
-    5,
-    (1 << 31) - 2,
+    HOUR - 1,
+    HOUR,
+    HOUR,
+    HOUR,
+    HOUR,
+    HOUR,
+    HOUR,
+    HOUR,
+    HOUR + 1,
+    3 * HOUR,
     (1 << 31) - 1,
     1 << 31,
     (1 << 31) + 1,
@@ -59,7 +69,7 @@ const PLANS: [(&str, Plan); 10] = [
             ..plan(12, CALM, 6)
         },
     ),
-    ("ticks", plan(12, HALVES, 12)),
+    ("ticks", plan(12, EDGES, 12)),
     ("crowd", plan(JOBS as u64, CALM, 12)),
     ("few", plan(2, CALM, 4)),
     // One tick for all, so that copies of it behind each other are no mere refusals.
@@ -139,10 +149,11 @@ fn good_start(random: &mut Random, plan: &Plan, count: u64) -> Vec<u8> {
 
 fn start(random: &mut Random, plan: &Plan) -> [u8; LENGTH] {
     let any = random.number() as u32;
+    let in_the_last_hour = u32::MAX - any % HOUR as u32;
     record::write(&Record::Start {
         tokens: random.pick(plan.tokens),
         resources: random.pick(plan.resources),
-        tick: random.pick(&[0, 1, u32::MAX - 20, u32::MAX, any]),
+        tick: random.pick(&[0, 1, u32::MAX - 20, u32::MAX, in_the_last_hour, any]),
         limit: random.pick(&[1, 50, 1000, u32::MAX, any.max(1)]),
     })
 }

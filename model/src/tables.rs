@@ -2,7 +2,7 @@
 //! turn, damaged, or random.
 
 use crate::answer::answer;
-use crate::clock::TOP;
+use crate::clock::{self, HOUR, TOP};
 use crate::drive::{self, Style};
 use crate::random::Random;
 use crate::replay::case_of;
@@ -14,7 +14,7 @@ const STYLES: [Style; 3] = [style(4), style(12), style(JOBS as u64)];
 const fn style(jobs: u64) -> Style {
     Style {
         jobs,
-        steps: &[0, 0, 1, 1, 2, 3, 1000, (1 << 31) - 1],
+        steps: &[0, 0, 1, 1, 2, 3, 1000, HOUR],
         wild: 20,
     }
 }
@@ -57,7 +57,17 @@ fn fresh(random: &mut Random) -> Table {
     let tokens = count(random);
     let resources = count(random);
     let limit = (random.any_length() as u32).max(1);
-    Table::empty(tokens, resources, limit, random.any_length() >> 32)
+    let mut time = random.any_length() >> 32;
+    if random.one_in(4) {
+        time = before_the_wrap(random, time);
+    }
+    Table::empty(tokens, resources, limit, time)
+}
+
+/// A moment in the last hour before the counter begins again.
+fn before_the_wrap(random: &mut Random, time: u64) -> u64 {
+    let left = random.below(HOUR);
+    clock::last_before_wrap(time) - random.pick(&[0, 1, left])
 }
 
 /// A number of tokens or resources.
@@ -84,6 +94,9 @@ pub fn built_of(random: &mut Random, tokens: u8, resources: u8, requests: u64) -
 
 fn filled(random: &mut Random, mut table: Table, requests: u64) -> Table {
     table.time = random.any_length().min(TOP);
+    if random.one_in(4) {
+        table.time = before_the_wrap(random, table.time);
+    }
     let gap = random.pick(&[1, 3, 1 << 40]);
     let mut idle: Set = (0..JOBS as u8).collect();
     let mut declared_ahead = Set::new();
@@ -127,7 +140,10 @@ fn request(
         asked.insert(member);
     }
     let waits = !token || !asked.is_empty();
-    let since = random.any_length().min(table.time);
+    // At any time, or so that it is not overdue yet.
+    let any = random.any_length();
+    let recent = table.time.saturating_sub(any % u64::from(table.limit));
+    let since = random.pick(&[any.min(table.time), recent]);
     declared_ahead.extend(&declared);
     Row {
         turn: table.last_turn,
@@ -140,7 +156,18 @@ fn request(
 
 /// Moves true time and all waits near the end of time. Sound stays sound.
 pub fn late(random: &mut Random, table: &mut Table) {
-    let left = random.pick(&[0, 1, 2, 5, 1000, (1 << 31) - 1, 1 << 31, (1 << 32) - 1]);
+    let left = random.pick(&[
+        0,
+        1,
+        2,
+        1000,
+        HOUR - 1,
+        HOUR,
+        HOUR + 1,
+        (1 << 31) - 1,
+        1 << 31,
+        (1 << 32) - 1,
+    ]);
     let shift = (TOP - left).saturating_sub(table.time);
     table.time += shift;
     for row in table.rows.iter_mut().filter(|row| row.since != 0) {

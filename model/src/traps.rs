@@ -1,14 +1,15 @@
 //! The traps that document 01 names, and their like: calls at which an arbiter that
-//! fell into one would answer otherwise.
+//! fell into one would answer otherwise. The longest step is one such, and so is a wait
+//! that a leap would make overdue (document 02, request 4).
 
 use crate::answer::{Answer, Outcome};
 use crate::arbiter::{Arbiter, Request};
 use crate::case::{Call, Case, EVENTS};
-use crate::clock;
+use crate::clock::{self, HOUR};
 use crate::set::{from_number, Set};
 
 /// Every trap.
-pub const TRAPS: [&str; 27] = [
+pub const TRAPS: [&str; 42] = [
     "ask waits for a set of which a part is free",
     "ask waits for what nobody holds",
     "complete leaves a set of which a part is free",
@@ -31,6 +32,21 @@ pub const TRAPS: [&str; 27] = [
     "complete over the wrap",
     "give-up over the wrap",
     "overdue over the wrap",
+    "beat an hour on",
+    "open an hour on",
+    "ask an hour on",
+    "release an hour on",
+    "complete an hour on",
+    "give-up an hour on",
+    "overdue an hour on",
+    "beat an hour and a millisecond on",
+    "open an hour and a millisecond on",
+    "ask an hour and a millisecond on",
+    "release an hour and a millisecond on",
+    "complete an hour and a millisecond on",
+    "give-up an hour and a millisecond on",
+    "overdue an hour and a millisecond on",
+    "overdue leaps past the limit",
     "open refused with a later tick",
     "ask refused with a later tick",
     "release refused with a later tick",
@@ -52,20 +68,46 @@ pub fn in_case(case: &Case, outcome: &Outcome) -> Vec<String> {
         _ => Vec::new(),
     };
     traps.extend(nothing_declared(case, outcome, &before));
-    let ticks = EVENTS.contains(&call) || call == Call::Overdue;
-    if ticks && case.tick < clock::tick_after(case.table.time, 0) {
-        traps.push(format!("{call} over the wrap"));
+    if EVENTS.contains(&call) || call == Call::Overdue {
+        traps.extend(on_the_clock(case));
     }
     traps
 }
 
-/// The clock must not move, and could have: 5 and 6 are not the reason.
-fn refused(case: &Case, number: u8) -> Vec<String> {
-    let later = clock::forward(case.table.time, case.tick) > 0;
-    if EVENTS.contains(&case.call) && later && (7..=16).contains(&number) {
-        return vec![format!("{} refused with a later tick", case.call)];
+fn on_the_clock(case: &Case) -> Vec<String> {
+    let call = case.call;
+    let mut traps = Vec::new();
+    if case.tick < clock::tick_after(case.table.time, 0) {
+        traps.push(format!("{call} over the wrap"));
     }
-    Vec::new()
+    if clock::forward(case.table.time, case.tick) == HOUR {
+        traps.push(format!("{call} an hour on"));
+    }
+    traps
+}
+
+fn refused(case: &Case, number: u8) -> Vec<String> {
+    let call = case.call;
+    let step = clock::forward(case.table.time, case.tick);
+    let mut traps = Vec::new();
+    // The clock must not move, and could have: it is not the reason.
+    if EVENTS.contains(&call) && step > 0 && (7..=16).contains(&number) {
+        traps.push(format!("{call} refused with a later tick"));
+    }
+    if number == 23 && step == HOUR + 1 {
+        traps.push(format!("{call} an hour and a millisecond on"));
+    }
+    if number == 23 && call == Call::Overdue && more_would_be_late(case) {
+        traps.push("overdue leaps past the limit".to_string());
+    }
+    traps
+}
+
+/// Whether the tick, were it taken, made somebody overdue who is not yet.
+fn more_would_be_late(case: &Case) -> bool {
+    let before = Arbiter::of(&case.table);
+    let late = |tick| before.overdue(tick).len();
+    late(case.tick) > late(clock::tick_after(case.table.time, 0))
 }
 
 fn ask(case: &Case, before: &Arbiter) -> Vec<String> {
