@@ -119,7 +119,7 @@ static void take_over(void)
     table = told.table;
 }
 
-static void power_on(norakkeun_tick tick)
+static void start(norakkeun_tick tick)
 {
     uint8_t record[NORAKKEUN_RECORD] = {0};
     norakkeun_told told;
@@ -152,7 +152,7 @@ static void take(message m)
 }
 
 /* The last line of a listing: live requests, tokens in use. */
-static void power_off(void)
+static void finish(void)
 {
     uint32_t live = 0, job;
 
@@ -164,8 +164,8 @@ static void power_off(void)
 
 /* What came in that night. A drive would take it from a queue. */
 static const message night[] = {
-    {BEAT, 0, {2147483647}, 0}, /* after 24.8 days */
-    {BEAT, 0, {4294967000}, 0}, /* on day fifty, 296 ms before the wrap */
+    {BEAT, 0, {4293300000}, 0}, /* half an hour on: the clock must hear something at least every hour */
+    {BEAT, 0, {4294967000}, 0}, /* 296 ms before the wrap */
     {OPEN, CURRENT_CONTROL, {4294967230}, GATE_DRIVER},
     {ASK, CURRENT_CONTROL, {4294967231}, GATE_DRIVER},
     {OPEN, BRAKE, {4294967240}, ENCODER_BUS + GATE_DRIVER},
@@ -198,10 +198,10 @@ int main(int argc, char **argv)
         fprintf(stderr, "usage: example RECORDING\n");
         return 2;
     }
-    power_on((norakkeun_tick){0});
+    start((norakkeun_tick){4291500000}); /* on day fifty of the counter, in the last hour before its wrap */
     for (i = 0; i < sizeof night / sizeof night[0]; i++) {
         take(night[i]);
     }
-    power_off();
+    finish();
     return fclose(recording) == 0 ? 0 : 2;
 }

@@ -273,14 +273,17 @@ enum Message {
     TakeOver,
 }
 
+/// On day fifty of the counter, in the last hour before its wrap.
+const START: Tick = Tick(4291500000);
+
 /// What came in that night. A drive would take it from a queue.
 #[rustfmt::skip]
 fn night() -> [Message; 23] {
     use Event::{Ask, Beat, Complete, Open, Release};
     use Message::{Event as E, Overdue, Report, TakeOver};
     [
-        E(Beat(Tick(2147483647))), // after 24.8 days
-        E(Beat(Tick(4294967000))), // on day fifty, 296 ms before the wrap
+        E(Beat(Tick(4293300000))), // half an hour on: the clock must hear something at least every hour
+        E(Beat(Tick(4294967000))), // 296 ms before the wrap
         E(Open(CURRENT_CONTROL, Tick(4294967230), GATE_DRIVER)),
         E(Ask(CURRENT_CONTROL, Tick(4294967231), GATE_DRIVER)),
         E(Open(BRAKE, Tick(4294967240), ENCODER_BUS | GATE_DRIVER)),
@@ -345,8 +348,8 @@ fn keep(recording: &mut File, record: Result<[u8; RECORD], u32>) -> io::Result<(
 }
 
 fn run(recording: &mut File) -> io::Result<()> {
-    keep(recording, record_start(Tick(0)))?;
-    let mut arbiter = Arbiter::start(Tick(0)).expect("the numbers of the start are in range");
+    keep(recording, record_start(START))?;
+    let mut arbiter = Arbiter::start(START).expect("the numbers of the start are in range");
     let mut number = 1;
     println!("{number} ok");
     for message in night() {
