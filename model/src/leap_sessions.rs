@@ -48,14 +48,14 @@ fn case_at(session: &Session, step: u64, call: Call, job: u32, set: u64) -> Case
 fn more_than_an_hour_is_a_leap_until_it_is_back() {
     for start in [0, 4_291_367_295, 4_294_967_282, u32::MAX] {
         for (step, said) in [
-            (HOUR - 1, "done"),
-            (HOUR, "done"),
-            (HOUR + 1, "no 23"),
-            (2 * HOUR, "no 23"),
+            (3_599_999, "done"),
+            (3_600_000, "done"),
+            (3_600_001, "no 23"),
+            (7_200_000, "no 23"),
             (NINE_DAYS, "no 23"),
-            ((1 << 31) - 1, "no 23"),
-            (1 << 31, "no 5"),
-            ((1 << 32) - 1, "no 5"),
+            (2_147_483_647, "no 23"),
+            (2_147_483_648, "no 5"),
+            (4_294_967_295, "no 5"),
         ] {
             let mut session = Session::start(1, 1, start, 50);
             assert_eq!(session.beat(tick_after(u64::from(start), step)), said);
@@ -141,10 +141,9 @@ fn hourly_beats_keep_true_time_over_the_wraps() {
     }
 }
 
-/// Two hours have passed. Beats for moments in between are taken, and then the wait is
-/// as long as it really was.
+/// Two hours have passed, and the wait is as long as it really was.
 #[test]
-fn beats_for_moments_in_between_put_it_right() {
+fn beats_for_moments_in_between_are_taken() {
     let mut session = waiting();
     let since = session.0.time;
     let now = tick_after(since, 2 * HOUR);

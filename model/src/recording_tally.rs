@@ -90,7 +90,7 @@ fn happened(history: &mut History, step: &Step) -> Vec<&'static str> {
     }
 }
 
-/// Whether the counter has begun again by this record, so often having been known.
+/// Whether the counter begins again with this record. How often it has is kept.
 fn over_the_wrap(wraps: &mut Option<u64>, step: &Step) -> Option<&'static str> {
     let now = step.table.map(|table| clock::wraps(table.time));
     let before = std::mem::replace(wraps, now);
