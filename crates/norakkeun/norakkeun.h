@@ -152,7 +152,7 @@ norakkeun_told norakkeun_give_up(norakkeun_table table, uint32_t job, norakkeun_
 norakkeun_job_report norakkeun_report(norakkeun_table table, uint32_t job);
 
 /* The jobs whose wait up to this tick is the limit or more stand at the front of the lent list in order of turn; later
- * entries keep what they had. The clock does not move. */
+ * entries keep what they had. The clock does not move; the tick must lie within the hour after true time. */
 norakkeun_late_jobs norakkeun_overdue(norakkeun_table table, norakkeun_tick tick, uint8_t *late, size_t length);
 
 /* Writing what is handed to the arbiter as a record: 14 bytes at the front of the lent room; later bytes keep what they

@@ -20,7 +20,7 @@ pub use Rattle.laws.specs.Counts.{all-each, count-and-true, count-every, count-
 pub use Rattle.laws.specs.Determined.{determined, told-apart}
 unfoldable pub use Rattle.laws.specs.Front.{over}
 pub use Rattle.laws.specs.HoldLaws.{hold, nth}
-unfoldable pub use Rattle.laws.specs.Lists.{all}
+unfoldable pub use Rattle.laws.specs.Lists.{all, any}
 pub use Rattle.laws.specs.Lists.{holds}
 pub use Rattle.laws.specs.Members.{Above, Apart, Beyond, None, Shared, Some, Under, Within}
 pub use Rattle.laws.specs.Reads.{Reads}

@@ -1,4 +1,4 @@
--- Ticks and true time, as document 01 words them under "Ticks and turns".
+-- Ticks and true time, as document 01 words them under "Ticks and turns", and a leap as document 02 [4] does.
 use Prim.Native.Nat.{ℕ, _+_, _-_, _%_, _^_, _≤_}
 use mathlib.Core.Bool.{Bool}
 use mathlib.Core.List.{List, [], _∷_}
@@ -61,6 +61,15 @@ timeAfter time (fine n) = n
 unfoldable pub forwards : ℕ → List ℕ → List (Outcome ℕ)
 forwards time [] = []
 forwards time (tick ∷ ticks) = forward time tick ∷ forwards (timeAfter time (forward time tick)) ticks
+
+-- what the drive's counter shows at a real time
+abbrev pub shown : ℕ → ℕ
+shown n = n % 2 ^ 32
+
+-- the last of these real times; before any of them, this time
+abbrev pub latest : ℕ → List ℕ → ℕ
+latest time [] = time
+latest time (n ∷ ns) = latest n ns
 
 -- real times, each at most an hour after the one before, none above the highest
 pub data Often : ℕ → List ℕ → Type 0 where

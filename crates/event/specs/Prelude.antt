@@ -6,13 +6,13 @@ pub use mathlib.Core.Option.{Option, none, some}
 pub use mathlib.Core.Path.{_∙_, _≡_, ap, refl, sym}
 pub use native.Mathlib.Omega.{arith}
 pub use borrow.Author.Needs.{needs}
-pub use borrow.Author.Tests.{eqb-true, le-leb, le-ltb, lt-leb, lt-ltb, ne-eqb}
+pub use borrow.Author.Tests.{eqb-true, le-leb, le-ltb, lt-leb, lt-ltb, ltb-false, ne-eqb}
 pub use lib.Dec.{eqb, ltb}
 pub use lib.ListN.{getD}
 pub use Rattle.laws.specs.BoolLaws.{and-left, and-right}
-pub use Rattle.laws.specs.CaseLaws.{acceptance-tells, outcome-is}
+pub use Rattle.laws.specs.CaseLaws.{acceptance-tells, clear, outcome-is}
 pub use Rattle.laws.specs.Cases.{Outcome, fine, positive}
-unfoldable pub use Rattle.laws.specs.Cases.{first}
+unfoldable pub use Rattle.laws.specs.Cases.{case, first}
 pub use Rattle.laws.specs.Chains.{past, this}
 pub use Rattle.laws.specs.Determined.{told-apart}
 pub use Rattle.laws.specs.ListLaws.{none-above}

@@ -33,10 +33,11 @@ numberOf WrongSize = 21
 numberOf UnknownVersion = 22
 numberOf ClockLeap = 23
 
--- the order in which the refusals of a call on a table, or of a record, are looked at: by number, but 23 behind 5
+-- the order in which the refusals of a start, an event, a question, and a record that is read or written are looked at: by
+-- number, but 23 behind 5; what a replay and service files ask besides has its own
 abbrev pub documented : List ℕ
 documented =
-    1 ∷ 2 ∷ 3 ∷ 4 ∷ 5 ∷ 23 ∷ 6 ∷ 7 ∷ 8 ∷ 9 ∷ 10 ∷ 11 ∷ 12 ∷ 13 ∷ 14 ∷ 15 ∷ 16 ∷ 17 ∷ 18 ∷ 19 ∷ 20 ∷ []
+    1 ∷ 2 ∷ 3 ∷ 4 ∷ 5 ∷ 23 ∷ 6 ∷ 7 ∷ 8 ∷ 9 ∷ 10 ∷ 11 ∷ 12 ∷ 13 ∷ 14 ∷ 15 ∷ 16 ∷ 17 ∷ 18 ∷ 19 ∷ []
 
 -- the case of a refusal, which applies when b is true
 abbrev pub refusing : Refusal → Bool → Case

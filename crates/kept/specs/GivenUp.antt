@@ -1,5 +1,5 @@
 -- What a give up leaves, and what is left to a request that has given up all, by name.
-use Rattle.kept.specs.Prelude.{Ask, GiveUp, Open, Release, Row, Table, Tick, _<_, _∙_, _≡_, _≤_, accepted, ahead, and-false, ap, arith, case, claims, clockCases, earlier, eqb-false, false, first-back, first-is, getD-set-same, givingUp, idle, inside-le, jobs, le-ltb, live, live-within, lt-leb, lt-ltb, ltb-true, meets-comm, meets-empty, next, none, not, not-false, past, refl, row-settled, rowIn, rowsWith, sound, sweptRow, sym, true, true≢false, ℕ}
+use Rattle.kept.specs.Prelude.{Ask, GiveUp, Open, Release, Row, Table, Tick, _<_, _∙_, _≡_, _≤_, acceptance-tells, accepted, ahead, and-false, ap, arith, case, claims, clockCases, earlier, eqb-false, false, first-back, first-is, forward, getD-set-same, givingUp, idle, inside-le, jobs, le-ltb, live, live-within, lt-leb, lt-ltb, ltb-true, meets-comm, meets-empty, next, none, not, not-false, past, refl, row-settled, rowIn, rowsWith, sound, sweptRow, sym, timeAt, true, true≢false, ℕ}
 use Rattle.event.specs.declared.events.Event.{Event}
 use Rattle.kept.specs.Words.{Accepts, Acts, OnlyCompletes}
 use Rattle.kept.specs.Accepted.{acts, next-accepted, passed, was-sound}
@@ -49,7 +49,7 @@ emptied-in-nobodys-way r nothing m x = rw (nothing, meets-comm 0 x, meets-empty 
 -- to a live request that declares nothing only its completion is left
 pub emptied-only-completes :
     (t : Table) (j : ℕ) → j < jobs → sound t ≡ true → live (rowIn t j) ≡ true → rowIn t j .declared ≡ 0 → OnlyCompletes t j
-unfolding case
+unfolding case forward
 emptied-only-completes t j below is-sound lives nothing =
     let r = rowIn t j in
     let p = table-sound t is-sound .rows j .lives (ltb-true 0 (r .turn .0) lives) in
@@ -68,8 +68,10 @@ emptied-only-completes t j below is-sound lives nothing =
       give-up = λ n tick s ok.
           let off = passed n t (GiveUp j tick s) ok in
           omega (arith, eqb-false s 0 (off 11), inside-le s (r .declared) (not-false _ (off 13)));
-      complete = λ n tick long taken.
+      complete = λ n tick time long taken.
+          let cs = clockCases (t .time) (tick .0) in
+          let clock = acceptance-tells {B = ℕ} cs (timeAt t (tick .0)) time taken .0 in
           let front = first-is (past (le-ltb n jobs long) (past (ap not is-sound) (past (lt-leb jobs j below) none))) in
           let back = first-is (past (ap not lives) (past (ap not has) (past (le-ltb 0 (r .asked) (omega arith)) none))) in
-          first-back _ _ refl (sym front) ∙ first-back (clockCases (t .time) (tick .0)) _ refl taken ∙ sym back;
+          first-back _ _ refl (sym front) ∙ first-back cs _ refl clock ∙ sym back;
     }

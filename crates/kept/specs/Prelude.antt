@@ -27,6 +27,7 @@ pub use Rattle.laws.specs.SetLaws.{inside-empty, inside-le, inside-reads, insid
 unfoldable pub use Rattle.laws.specs.Sets.{below, inside, meets, union, without}
 pub use Rattle.laws.specs.Sets.{member}
 pub use Rattle.event.specs.Clock.{clockCases, clockRefusals}
+unfoldable pub use Rattle.event.specs.Clock.{forward}
 pub use Rattle.event.specs.Events.{Role, about, actor, refusalsOf, hasJob, jobOf, names, nobody, opener, setOf, tickOf}
 pub use Rattle.event.specs.Limits.{jobs}
 pub use Rattle.event.specs.RefusalLaws.{cases-positive, first-named}

@@ -1,11 +1,11 @@
 -- What is said of accepted events and of rows while the table around them moves on.
 use Prim.Native.Nat.{ℕ, _+_, _<_, _≤_}
 use mathlib.Core.Path.{_≡_}
-use Rattle.event.specs.Clock.{clockCases}
+use Rattle.event.specs.Clock.{forward}
 use Rattle.event.specs.declared.clock.Tick.{Tick}
 use Rattle.event.specs.declared.events.Event.{Event}
 use Rattle.event.specs.declared.events.Event.the-variants.{Ask, Complete, GiveUp, Open, Release}
-use Rattle.laws.specs.Cases.{first, refused}
+use Rattle.laws.specs.Cases.{fine, first, refused}
 use Rattle.event.specs.Limits.{jobs}
 use Rattle.rows.specs.Order.{ahead, idle, inWay, waiting}
 use Rattle.rows.specs.Propositions.{openingOf}
@@ -111,7 +111,7 @@ pub record OnlyCompletes (t : Table) (j : ℕ) : Type 0 where
   pub release : (n : ℕ) (tick : Tick) (s : ℕ) → ¬ Accepts n t (Release j tick s)
   pub give-up : (n : ℕ) (tick : Tick) (s : ℕ) → ¬ Accepts n t (GiveUp j tick s)
   pub complete :
-      (n : ℕ) (tick : Tick) → jobs ≤ n → first (clockCases (t .time) (tick .0)) ≡ 0 → Accepts n t (Complete j tick)
+      (n : ℕ) (tick : Tick) (time : ℕ) → jobs ≤ n → forward (t .time) (tick .0) ≡ fine time → Accepts n t (Complete j tick)
 
 -- ---- What becomes of the turn and the declared set of the row of a job
 

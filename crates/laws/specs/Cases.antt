@@ -3,6 +3,7 @@ use Prim.Native.Nat.{ℕ, _+_, zero, suc}
 use mathlib.Core.Bool.{Bool, true, false, cond, _&&_}
 use mathlib.Core.List.{List, [], _∷_}
 use lib.Dec.{ltb, eqb}
+use Rattle.laws.specs.Lists.{all, any}
 
 -- a case: its number, and whether it applies
 pub record Case : Type 0 where
@@ -28,9 +29,9 @@ unfoldable pub ascends : List ℕ → ℕ → List Case → Bool
 ascends order k [] = true
 ascends order k (c ∷ cs) = ltb k (placeIn order (c .number)) && ascends order (placeIn order (c .number)) cs
 
--- the cases stand in that order
+-- the cases stand in that order, and it has the number of each
 abbrev pub follows : List ℕ → List Case → Bool
-follows order cs = ascends order 0 cs
+follows order cs = all (λ c. any (eqb (c .number)) order) cs && ascends order 0 cs
 
 -- every number is positive, so that 0 stands for no case
 abbrev pub positive : List Case → Bool

@@ -1,5 +1,5 @@
 -- The names from outside that this crate uses, passed on by one module; those of `kept` are cited from there.
-pub use Prim.Native.Nat.{_%_, _+_, _-_, _<_, _^_, _≤_, suc, zero, ℕ}
+pub use Prim.Native.Nat.{_+_, _-_, _<_, _≤_, suc, zero, ℕ}
 pub use mathlib.Core.Bool.{Bool, _&&_, _||_, and-false, and-not-self, and-true, cond, false, false≢true, not, true, true≢false}
 pub use mathlib.Core.List.{List, [], _++_, _∷_, map, map-map}
 pub use mathlib.Core.Path.{_∙_, _≡_, ap, ap₂, fun-ext, refl, subst, sym}

@@ -1,5 +1,5 @@
--- The sessions that document 01 marks P, with P3 and two more as document 02 [4] has them: one table of claims about the meanings,
--- each by computation.
+-- The sessions that document 01 marks P, with P3 as document 02 [4] has it and two leaps besides: one table of claims about the
+-- meanings, each by computation.
 use Rattle.promises.specs.Prelude.{_+_, _-_, Ask, Complete, Open, Release, Table, Tick, [], ahead, all, answer, below, count, course, distinct, encode, false, fine, first, forward, under, highest, inWay, inside, jobs, keep, late, lateIn, leaves, lined, meet, meets, next, outcome, overdue, place, refl, refused, report, run, saysWait, settled, sound, startTable, true, union, wakes, without, woken, ℕ, _∷_, _≡_}
 use Rattle.event.specs.declared.events.Entry.the-variants.{Event}
 use Rattle.record.specs.Worked as Record

@@ -62,7 +62,7 @@ pub fn open_verdict(s: Seen, job: u32, tick: Tick, set: u64) -> Moment
     open_at(s, set, time)
 }
 
-// 3 to 6 and 8 to 12: the refusals of a job that acts on a set, which a release and a give up share.
+// The entry and 8 to 12: the refusals of a job that acts on a set, which a release and a give up share.
 fn act_on_verdict(s: Seen, job: u32, tick: Tick, set: u64) -> Moment
     ensures { λ r. ⌜ momentOf r ≡ outcome (actOnCases s (calling job (tick .0) set)) (timeFrom (s .time) (tick .0)) ⌝ }
 {

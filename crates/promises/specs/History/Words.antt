@@ -69,11 +69,6 @@ unfoldable pub heededBy : Arbiter → Table → List Event → List Event
 heededBy a t [] = []
 heededBy a t (e ∷ es) = cond (takes a t e) (e ∷ heededBy a (a .next t e) es) (heededBy a (a .next t e) es)
 
--- the last of these real times; before any of them, this time
-abbrev pub latest : ℕ → List ℕ → ℕ
-latest time [] = time
-latest time (n ∷ ns) = latest n ns
-
 -- ---- Who parts from a request, and what it still declares
 
 -- r is in the way of job j's request: an earlier-opened live row that declares something that the request still declares
