@@ -1,5 +1,5 @@
 -- What a survey of a table tells of an event.
-use Rattle.arbiter.specs.Prelude.{Bool, Bounds, Event, Known, Lines, List, Listed, Report, Row, Seen, Settles, Survey, Surveyed, Swept, Table, _<_, _^_, _∙_, _≡_, about, ahead, ap, calling, inWay, jobOf, lateIn, ltb, meets, outcome, setOf, subst, sym, tickOf, token, true, waiting-by, waitingBy, ℕ}
+use Rattle.arbiter.specs.Prelude.{Bool, Bounds, Event, Known, Lines, List, Listed, Report, Row, Seen, Settles, Survey, Surveyed, Swept, Table, _<_, _^_, _∙_, _≡_, ap, inWay, jobOf, lateIn, ltb, meets, outcome, setOf, subst, sym, true, waiting-by, waitingBy, ℕ}
 use Rattle.arbiter.specs.ChangeLaws.{all-ahead, changeOn, forbids, hasRoom, seen-by, sound-by, sound-last, survey-tells}
 use Rattle.decision.specs.Changes.{changeFor, refusalCases}
 use Rattle.arbiter.specs.Bounded.{boundsOf}
@@ -14,7 +14,9 @@ module _ (t : Table) (e : Event) (v : Survey) (survey : Surveyed (boundsOf t) (t
       {A : Type 0} (f : Seen → A) →
       outcome (refusalCases (v .seen) e) (f (v .seen)) ≡ outcome (refusalCases (seenIn t (jobOf e)) e) (f (seenIn t (jobOf e)))
   seen-tells f =
-      survey-tells t (calling (jobOf e) (tickOf e) (setOf e)) (about e) f (v .seen) (survey .told) (λ ok. survey .known ok .sees)
+      let sees : sound t ≡ true → v .seen ≡ seenIn t (jobOf e) =
+      λ ok. survey .known (sound-by t ∙ ok) .sees ∙ seen-by t (jobOf e) in
+      survey-tells t e (v .seen) _ _ (survey .told ∙ sound-by t) sees (λ ok. ap f (sees ok))
 
   module _ (ok : sound t ≡ true) where
     known : Known (boundsOf t) (t .rows) (jobOf e) v

@@ -1,9 +1,9 @@
 -- An event carried out by what it sees of a table is what the event means.
-use Rattle.arbiter.specs.Prelude.{Acts, Ask, Beat, Bool, Case, Change, Complete, Event, GiveUp, List, Next, NoToken, NotLive, Onward, Open, Refusal, Release, Seen, Settles, StillWaiting, Swept, Table, [], _&&_, _++_, _<_, _∙_, _≡_, _≤_, about, acceptance-tells, actor, ahead, all, among, and-left, and-right, ap, arith, calling, case, clear, clear-named, cond, described, ended, every-kind, false, fine, implied, implies, jobOf, jobs, kindOf, le-ltb, le-zero, leb-false, length, live, lt-ltb, ltb-false, ltb-true, not, not-false, ofRole, outcome, outcome-is, outcome-past, over, refl, refusalsOf, refused, set, setOf, settledRows, sound-steady, stayed, sym, this, tickOf, true, true≢false, woken, ℕ}
+use Rattle.arbiter.specs.Prelude.{Acts, Ask, Beat, Bool, Case, Change, Complete, Event, GiveUp, List, Next, NoToken, NotLive, Onward, Open, Refusal, Release, Seen, Settles, StillWaiting, Swept, Table, [], _&&_, _++_, _<_, _∙_, _≡_, _≤_, about, acceptance-tells, actor, ahead, all, among, and-left, and-right, ap, arith, calling, case, clear, clear-named, cond, described, ended, every-kind, false, fine, implied, implies, jobOf, jobs, kindOf, le-ltb, le-zero, leb-false, length, live, lt-ltb, ltb-false, ltb-true, not-false, ofRole, outcome, outcome-is, outcome-past, over, refl, refusalsOf, refused, set, setOf, settledRows, sound-steady, stayed, sym, this, tickOf, true, true≢false, woken, ℕ}
 use Rattle.arbiter.specs.Answering.{accepted-answers}
 use Rattle.arbiter.specs.Answers.{saidOf, saysWoke}
 use Rattle.arbiter.specs.Bounded.{boundsOf}
-use Rattle.arbiter.specs.ChangeLaws.{change-accepted, change-said, changeOn, forbids, hasRoom, loud-accepted, loud-said, sound-by}
+use Rattle.arbiter.specs.ChangeLaws.{change-accepted, change-said, changeOn, forbids, hasRoom, loud-accepted, loud-said, sound-by, survey-tells}
 use Rattle.decision.specs.Changes.{changeFor, refusalCases}
 use Rattle.arbiter.specs.Effects.{Does}
 use Rattle.arbiter.specs.Meaning.{accepted, moved, said, wakes}
@@ -27,23 +27,14 @@ long-cases {A} n t e a long = go (about e .wakes)
     go true = sym (outcome-past _ _ _ _ (le-ltb n jobs long))
     go false = refl
 
--- what an event comes to by what is seen is what it comes to on the table: where that is not sound, nothing else is looked at
+-- what an event comes to by what is seen is what it comes to on the table
 module _ (t : Table) (e : Event) (s : Seen) (forbidden room : Bool) where
   pub decides-by :
       s .sound ≡ sound t → (sound t ≡ true → s ≡ seenIn t (jobOf e)) → (sound t ≡ true → forbidden ≡ forbids t e) →
       (sound t ≡ true → room ≡ hasRoom t) →
       outcome (refusalCases s e) (changeFor s forbidden room e) ≡ outcome (refusalCases (seenIn t (jobOf e)) e) (changeOn t e)
-  decides-by told sees forbidding having = go (sound t) refl
-    where
-      unsound : (x : Seen) (c : Change) → x .sound ≡ false → refused 3 ≡ outcome (refusalCases x e) c
-      unsound x c out = outcome-is c (this (ap not out))
-
-      go :
-          (b : Bool) → sound t ≡ b →
-          outcome (refusalCases s e) (changeFor s forbidden room e) ≡ outcome (refusalCases (seenIn t (jobOf e)) e) (changeOn t e)
-      go true ok = λ i. outcome (refusalCases (sees ok i) e) (changeFor (sees ok i) (forbidding ok i) (having ok i) e)
-      go false out =
-          sym (unsound s (changeFor s forbidden room e) (told ∙ out)) ∙ unsound (seenIn t (jobOf e)) (changeOn t e) out
+  decides-by told sees forbidding having =
+      survey-tells t e s _ _ told sees (λ ok. λ i. changeFor (sees ok i) (forbidding ok i) (having ok i) e)
 
 -- ---- Events that wake nobody
 

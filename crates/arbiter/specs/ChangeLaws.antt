@@ -1,10 +1,10 @@
 -- What an event comes to on a table, by what it sees of it.
-use Rattle.arbiter.specs.Prelude.{Bool, Table, Ask, Beat, Call, Change, Complete, Event, GiveUp, List, Open, Release, Row, Seen, [], _+_, _∙_, _∷_, _≡_, about, ap, appliesTo, blocked, casesBy, cond, false, fine, getD, idle, jobOf, not, outcome, outcome-is, refl, refused, seenBy, set, setOf, settledRows, soundBy, suc, sym, this, token, true, true≢false, zero, ℕ, _&&_, _<_, _^_, _≤_, ahead, all, all-each, and-left, and-right, arith, count-and-true, count-every, count-line, count-mono, distinct, earlier, highest, holds, le-antisymm, leb, leb-true, length, line, live, ltb-true, turn-earlier, Description, refusalsOf, Survey, Surveyed}
+use Rattle.arbiter.specs.Prelude.{Bool, Table, Ask, Beat, Change, Complete, Event, GiveUp, List, Open, Release, Row, Seen, [], _+_, _∙_, _∷_, _≡_, about, ap, blocked, cond, false, fine, getD, idle, jobOf, not, outcome, outcome-is, refl, refused, seenBy, set, setOf, settledRows, soundBy, suc, sym, this, token, true, true≢false, zero, ℕ, _&&_, _<_, _^_, _≤_, ahead, all, all-each, and-left, and-right, arith, count-and-true, count-every, count-line, count-mono, distinct, earlier, highest, holds, le-antisymm, leb, leb-true, length, line, live, ltb-true, turn-earlier, Survey, Surveyed}
 use Rattle.decision.specs.Changes.{askAnswer, changeFor, decided, openAnswer, refusalCases}
 use Rattle.arbiter.specs.Bounded.{boundsOf}
 use Rattle.decision.specs.declared.deciding.Decision.{Decision}
 use Rattle.arbiter.specs.Meaning.{accepted, moved, said, wakes}
-use Rattle.arbiter.specs.Refusals.{applies, seenIn}
+use Rattle.arbiter.specs.Refusals.{seenIn}
 use Rattle.arbiter.specs.Sound.{counters, ranges, rowIn, sound, soundRow}
 use Rattle.arbiter.specs.Answers.{saidOf, saysGranted, saysToken, saysWait, saysWoke}
 
@@ -27,25 +27,18 @@ seen-by t j = λ i.
       token = seenIn t j .token;
     }
 
--- what a call answers by a survey it answers by the table, for in an unsound one nothing else is looked at
+-- what is found by what is seen is so by the table, for of an unsound one nothing else is looked at
 pub survey-tells :
-    {A : Type 0} (t : Table) (c : Call) (d : Description) (f : Seen → A) (s : Seen) →
-    s .sound ≡ soundBy (boundsOf t) (t .rows) → (soundBy (boundsOf t) (t .rows) ≡ true → s ≡ seenBy (boundsOf t) (t .rows) (c .job)) →
-    outcome (casesBy (appliesTo s c) (refusalsOf d)) (f s)
-    ≡ outcome (casesBy (applies t c) (refusalsOf d)) (f (seenIn t (c .job)))
-survey-tells {A} t c d f s told known = go (sound t) refl
+    {A : Type 0} (t : Table) (e : Event) (s : Seen) (a b : A) → s .sound ≡ sound t → (sound t ≡ true → s ≡ seenIn t (jobOf e)) →
+    (sound t ≡ true → a ≡ b) → outcome (refusalCases s e) a ≡ outcome (refusalCases (seenIn t (jobOf e)) e) b
+survey-tells {A} t e s a b told sees same = go (sound t) refl
   where
-    unsound : (x : Seen) → x .sound ≡ false → refused 3 ≡ outcome (casesBy (appliesTo x c) (refusalsOf d)) (f x)
-    unsound x e = outcome-is (f x) (this (ap not e))
+    unsound : (x : Seen) (c : A) → x .sound ≡ false → refused 3 ≡ outcome (refusalCases x e) c
+    unsound x c out = outcome-is c (this (ap not out))
 
-    go :
-        (b : Bool) → sound t ≡ b →
-        outcome (casesBy (appliesTo s c) (refusalsOf d)) (f s)
-        ≡ outcome (casesBy (applies t c) (refusalsOf d)) (f (seenIn t (c .job)))
-    go true e =
-        ap (λ (x : Seen). outcome (casesBy (appliesTo x c) (refusalsOf d)) (f x))
-        (known (sound-by t ∙ e) ∙ seen-by t (c .job))
-    go false e = sym (unsound s (told ∙ sound-by t ∙ e)) ∙ unsound (seenIn t (c .job)) e
+    go : (ok : Bool) → sound t ≡ ok → outcome (refusalCases s e) a ≡ outcome (refusalCases (seenIn t (jobOf e)) e) b
+    go true ok = λ i. outcome (refusalCases (sees ok i) e) (same ok i)
+    go false out = sym (unsound s a (told ∙ out)) ∙ unsound (seenIn t (jobOf e)) b out
 
 -- ---- What an accepted event changes
 

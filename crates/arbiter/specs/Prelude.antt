@@ -30,7 +30,7 @@ pub use Rattle.laws.specs.Sets.{below, inside, meets, member}
 pub use Rattle.event.specs.Answers.{answerBy}
 pub use Rattle.event.specs.Clock.{momentOf}
 pub use Rattle.event.specs.EventLaws.{every-kind}
-pub use Rattle.event.specs.Events.{Description, about, actor, described, jobOf, kindOf, ofRole, refusalsOf, setOf, tickOf}
+pub use Rattle.event.specs.Events.{about, actor, described, jobOf, kindOf, ofRole, refusalsOf, setOf, tickOf}
 pub use Rattle.event.specs.Limits.{highest, jobs}
 pub use Rattle.event.specs.RefusalLaws.{clear-named, refusalOf-numberOf}
 pub use Rattle.event.specs.Refusals.{among, casesBy, documented, numberOf}
@@ -58,7 +58,7 @@ pub use Rattle.arbiter.specs.declared.table.Table.{Table}
 pub use Rattle.decision.specs.declared.deciding.Change.{Change}
 unfoldable pub use Rattle.soundness.specs.Beside.{soundBy}
 pub use Rattle.soundness.specs.declared.Bounds.{Bounds}
-pub use Rattle.grounds.specs.Refusals.{Call, appliesTo, calling, timeFrom}
+pub use Rattle.grounds.specs.Refusals.{calling, timeFrom}
 pub use Rattle.rows.specs.Sweep.{woken}
 pub use Rattle.rows.specs.Turns.{turn-earlier}
 pub use Rattle.pass.specs.Pass.{Known, Surveyed, seenBy}
