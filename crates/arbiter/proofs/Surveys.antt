@@ -1,23 +1,13 @@
 -- What a survey of a table tells of an event.
-use Rattle.arbiter.specs.Prelude.{Bool, Bounds, Event, Known, Lines, List, Listed, Report, Row, Seen, Settles, Survey, Surveyed, Swept, Table, _<_, _^_, _∙_, _≡_, ap, inWay, jobOf, lateIn, ltb, meets, outcome, setOf, subst, sym, true, waiting-by, waitingBy, ℕ}
-use Rattle.arbiter.specs.ChangeLaws.{all-ahead, changeOn, forbids, hasRoom, seen-by, sound-by, sound-last, survey-tells}
+use Rattle.arbiter.specs.Prelude.{Bool, Bounds, Event, Known, Lines, List, Row, Seen, Settles, Survey, Surveyed, Swept, Table, _<_, _^_, _∙_, _≡_, ap, jobOf, ltb, meets, outcome, setOf, subst, sym, true, ℕ}
+use Rattle.arbiter.specs.ChangeLaws.{all-ahead, changeOn, forbids, hasRoom, seen-by, sound-by, sound-last}
 use Rattle.decision.specs.Changes.{changeFor, refusalCases}
 use Rattle.arbiter.specs.Bounded.{boundsOf}
-use Rattle.arbiter.specs.Meaning.{reported}
 use Rattle.arbiter.specs.Refusals.{seenIn}
-use Rattle.arbiter.specs.Sound.{rowIn, sound}
+use Rattle.arbiter.specs.Sound.{sound}
 use Rattle.arbiter.specs.Carrying.{decides-by}
 
 module _ (t : Table) (e : Event) (v : Survey) (survey : Surveyed (boundsOf t) (t .rows) (jobOf e) v) where
-  -- what is found by what is seen is so by the table
-  pub seen-tells :
-      {A : Type 0} (f : Seen → A) →
-      outcome (refusalCases (v .seen) e) (f (v .seen)) ≡ outcome (refusalCases (seenIn t (jobOf e)) e) (f (seenIn t (jobOf e)))
-  seen-tells f =
-      let sees : sound t ≡ true → v .seen ≡ seenIn t (jobOf e) =
-      λ ok. survey .known (sound-by t ∙ ok) .sees ∙ seen-by t (jobOf e) in
-      survey-tells t e (v .seen) _ _ (survey .told ∙ sound-by t) sees (λ ok. ap f (sees ok))
-
   module _ (ok : sound t ≡ true) where
     known : Known (boundsOf t) (t .rows) (jobOf e) v
     known = survey .known (sound-by t ∙ ok)
@@ -60,33 +50,3 @@ module _ (b : Bounds) (t : Table) (e : b ≡ boundsOf t) where
       Settles (t .tokens) rows k row before swept after
   settled-by {rows} {k} {row} {before} {after} {swept} =
       subst (λ (x : Bounds). Settles (x .tokens) rows k row before swept after) e
-
-  pub listed-by :
-      (rows : List Row) (time : ℕ) {n : ℕ} {before after : List ℕ} → Listed (lateIn (b .tokens) (b .limit) time rows) before n after →
-      Listed (lateIn (t .tokens) (t .limit) time rows) before n after
-  listed-by rows time {n} {before} {after} =
-      subst (λ (x : Bounds). Listed (lateIn (x .tokens) (x .limit) time rows) before n after) e
-
--- ---- Reports
-
--- what is told of a request is told by what was seen of it
-pub report-is :
-    (t : Table) (j : ℕ) (v : Survey) → Known (boundsOf t) (t .rows) j v → (w : Bool) (n : ℕ) →
-    w ≡ waitingBy (t .tokens) (v .standing) (v .seen .row) →
-    n ≡ inWay (t .rows) (v .seen .row .turn .0) (v .seen .row .declared) →
-    _≡_ {A = Report}
-    (record { turn = v .seen .row .turn; token = v .seen .token; waiting = w; ahead = v .standing .ahead; «in_way» = n })
-    (reported t (rowIn t j))
-report-is t j v known w n waits blocks =
-    let same = known .sees ∙ seen-by t j in
-    let waiting = waits ∙ ap (λ (s : Seen). waitingBy (t .tokens) (v .standing) (s .row)) same ∙ waiting-by (t .tokens) (t .rows) (v .standing) (rowIn t j) (known .stands) in
-    let before = known .stands .before in
-    let between = blocks ∙ ap (λ (s : Seen). inWay (t .rows) (s .row .turn .0) (s .row .declared)) same in
-    λ i.
-    record {
-      turn = same i .row .turn;
-      token = same i .token;
-      waiting = waiting i;
-      ahead = before i;
-      «in_way» = between i;
-    }

@@ -7,7 +7,7 @@ pub use mathlib.Core.Path.{_∙_, _≡_, ap, refl, subst, sym}
 pub use native.Mathlib.Nat.{le-antisymm}
 pub use native.Mathlib.Omega.{arith}
 pub use borrow.Author.Needs.{needs}
-pub use borrow.Author.Tests.{eqb-false, eqb-true, le-leb, le-ltb, leb-false, leb-true, lt-leb, lt-ltb, ltb-false, ltb-true, not-false}
+pub use borrow.Author.Tests.{eqb-false, eqb-true, le-leb, le-ltb, leb-false, leb-true, lt-ltb, ltb-false, ltb-true, not-false}
 pub use lib.Dec.{eqb, leb, ltb}
 pub use lib.ListN.{getD, length, length-map, replicate, set}
 pub use Rattle.laws.specs.BoolLaws.{and-left, and-right, implied}
@@ -28,7 +28,6 @@ pub use Rattle.laws.specs.ReadsLaws.{reading, reads-not}
 pub use Rattle.laws.specs.SetLaws.{below-reads, empty, inside-reads, meets-reads, some-member}
 pub use Rattle.laws.specs.Sets.{below, inside, meets, member}
 pub use Rattle.event.specs.Answers.{answerBy}
-pub use Rattle.event.specs.Clock.{momentOf}
 pub use Rattle.event.specs.EventLaws.{every-kind}
 pub use Rattle.event.specs.Events.{about, actor, described, jobOf, kindOf, ofRole, refusalsOf, setOf, tickOf}
 pub use Rattle.event.specs.Limits.{highest, jobs}
@@ -38,12 +37,11 @@ pub use Rattle.event.specs.declared.clock.Tick.{Tick}
 pub use Rattle.event.specs.declared.events.Event.{Event}
 pub use Rattle.event.specs.declared.events.Event.the-variants.{Ask, Beat, Complete, GiveUp, Open, Release}
 pub use Rattle.event.specs.declared.refusal.Refusal.{Refusal}
-pub use Rattle.event.specs.declared.refusal.Refusal.the-variants.{NoToken, NotLive, ShortList, StillWaiting}
+pub use Rattle.event.specs.declared.refusal.Refusal.the-variants.{NoToken, NotLive, StillWaiting}
 pub use Rattle.rows.specs.InLine.{count-line}
 pub use Rattle.rows.specs.InWay.{in-way-at, in-way-some}
-pub use Rattle.rows.specs.KnownLaws.{waiting-by}
 pub use Rattle.rows.specs.Line.{line, rowOf}
-pub use Rattle.line.specs.LineInCode.{Lines, Listed}
+pub use Rattle.line.specs.LineInCode.{Lines}
 pub use Rattle.rows.specs.Order.{blocked, distinct, earlier, idle, inWay, live, token}
 unfoldable pub use Rattle.rows.specs.Order.{ahead}
 pub use Rattle.rows.specs.Propositions.{InTheWay}
@@ -58,7 +56,7 @@ pub use Rattle.arbiter.specs.declared.table.Table.{Table}
 pub use Rattle.decision.specs.declared.deciding.Change.{Change}
 unfoldable pub use Rattle.soundness.specs.Beside.{soundBy}
 pub use Rattle.soundness.specs.declared.Bounds.{Bounds}
-pub use Rattle.grounds.specs.Refusals.{calling, timeFrom}
+pub use Rattle.grounds.specs.Refusals.{calling}
 pub use Rattle.rows.specs.Sweep.{woken}
 pub use Rattle.rows.specs.Turns.{turn-earlier}
 pub use Rattle.pass.specs.Pass.{Known, Surveyed, seenBy}
@@ -67,6 +65,3 @@ pub use Rattle.sweep.specs.SteadyLaws.{sound-steady}
 pub use Rattle.sweep.specs.Sweeping.{Acts, Onward, Settles, ended, settledRows, stayed}
 pub use Rattle.sweep.specs.declared.settling.Swept.{Swept}
 pub use lib.Arith.{le-zero}
-pub use Rattle.rows.specs.Known.{waitingBy}
-pub use Rattle.arbiter.specs.declared.table.Report.{Report}
-pub use Rattle.questions.specs.Late.{lateIn}

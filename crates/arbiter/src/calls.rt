@@ -1,4 +1,4 @@
-// The calls: start, the six events and the two questions. An event takes the table by value and returns the next.
+// The start and the six events. An event takes the table by value and returns the next.
 ghost use Prim.Native.Nat.{_<_, _^_, _≤_};
 ghost use mathlib.Core.Bool.{false, true};
 ghost use mathlib.Core.Path.{_≡_};
@@ -11,19 +11,15 @@ ghost use Rattle.arbiter.specs.ChangeLaws.{Decides, Finds};
 ghost use Rattle.arbiter.specs.Bounded.{boundsOf};
 ghost use Rattle.arbiter.specs.Effects.{Refuses};
 ghost use Rattle.arbiter.specs.Meaning.{moved};
-ghost use Rattle.arbiter.specs.Promises.{Answered, AnsweredInto, OverdueAnswered, ReportAnswered, Started};
+ghost use Rattle.arbiter.specs.Promises.{Answered, AnsweredInto, Started};
 ghost use Rattle.arbiter.specs.Sound.{sound};
-use crate::table::Late;
 use crate::table::Next;
-use crate::table::Report;
-use crate::table::Reported;
 use crate::table::Table;
 use decision::Answer;
 use decision::Decision;
 use decision::decide;
 use event::Event;
 use event::JOBS;
-use event::Moment;
 use event::Refusal;
 use event::Tick;
 use event::parts_of;
@@ -31,17 +27,12 @@ use laws::sets;
 use line::Line;
 use pass::Survey;
 use pass::survey;
-use questions::in_way;
-use questions::list_late;
 use rows::Row;
 use rows::Turn;
 use rows::idle;
-use rows::live;
-use rows::waiting;
 use soundness::Bounds;
 use soundness::in_range;
 use sweep::settle;
-use verdict::clock_verdict;
 
 // The refusal, and the table as it was.
 fn refused(t: Table, refusal: Refusal) -> Next
@@ -275,55 +266,6 @@ impl Table {
             Event::Release { job, tick, set } => self.release(job, tick, set),
             Event::Complete { job, tick } => self.complete(job, tick, woken),
             Event::GiveUp { job, tick, set } => self.give_up(job, tick, set, woken),
-        }
-    }
-
-    // What is told of a job's request; nothing changes.
-    pub fn report(self, job: u32) -> Reported
-        ensures { λ r. ⌜ ReportAnswered self job r ⌝ }
-    {
-        let rows = self.rows;
-        let s = survey(rows, bounds(self), job);
-        let seen = s.seen;
-        if !seen.sound {
-            return Reported::No(Refusal::UnsoundTable);
-        }
-        if JOBS as u32 <= job {
-            return Reported::No(Refusal::NoSuchJob);
-        }
-        let row = seen.row;
-        if !live(row) {
-            return Reported::No(Refusal::NotLive);
-        }
-        let standing = s.standing;
-        let line = s.line;
-        let turn = row.turn;
-        Reported::Is(Report {
-            turn,
-            token: seen.token,
-            waiting: waiting(row, standing, self.tokens),
-            ahead: standing.ahead,
-            in_way: in_way(rows, line, turn, row.declared),
-        })
-    }
-
-    // The jobs whose wait is the limit or more, written to the lent list in order of turn; no clock moves.
-    pub fn overdue(self, tick: Tick, late: &mut [u8]) -> Late
-        ensures { λ r. ⌜ OverdueAnswered self (tick .0) (now (late .entry)) r (now (late .exit)) ⌝ }
-    {
-        if late.len() < JOBS {
-            return Late::No(Refusal::ShortList);
-        }
-        let rows = self.rows;
-        let s = survey(rows, bounds(self), 0);
-        let seen = s.seen;
-        let verdict = clock_verdict(seen, tick);
-        match verdict {
-            Moment::No(refusal) => Late::No(refusal),
-            Moment::At(time) => {
-                let line = s.line;
-                Late::Count(list_late(rows, line, bounds(self), time, late))
-            }
         }
     }
 }

@@ -1,4 +1,4 @@
-// The arbiter: a table of locking requests, the events that change it and the questions about it.
+// The arbiter: a table of locking requests, the events that change it, and what the questions about it are answered.
 mod calls;
 mod table;
 

@@ -94,11 +94,15 @@ pub fn left_by(case: Case, call: Call, table: Table, list: &mut [u8]) -> Left
             next_left(table.apply(cases::event_in(case, kind), list), listed(kind))
         },
         Call::Report => tabled(
-            lines::reported(table.report(case.job)),
+            lines::reported(asking::report(table, case.job)),
             Part::Nothing,
             table,
         ),
-        Call::Overdue => tabled(lines::late(table.overdue(tick, list)), Part::List, table),
+        Call::Overdue => tabled(
+            lines::late(asking::overdue(table, tick, list)),
+            Part::List,
+            table,
+        ),
         Call::Start => start_left(tick, table),
         Call::Write(kind) => write_left(
             writing::write(Entry::Event(cases::event_in(case, kind)), list),

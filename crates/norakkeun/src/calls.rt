@@ -84,7 +84,7 @@ pub extern "C" fn norakkeun_give_up(
 pub extern "C" fn norakkeun_report(table: Table, job: u32) -> JobReport
     ensures { λ r. ⌜ r ≡ reportInNumbers (report table job) ⌝ }
 {
-    report_in_numbers(table.report(job))
+    report_in_numbers(asking::report(table, job))
 }
 
 // The jobs whose wait is the limit or more, written to the lent list in order of turn.
@@ -93,5 +93,5 @@ pub extern "C" fn norakkeun_overdue(table: Table, tick: Tick, late: &mut [u8]) -
     ensures { λ r. ⌜ r ≡ lateInNumbers (overdue (length (now (late .entry))) table (tick .0)) ⌝ }
     ensures { λ _. ⌜ now (late .exit) ≡ overdueList table (tick .0) (now (late .entry)) ⌝ }
 {
-    late_in_numbers(table.overdue(tick, late))
+    late_in_numbers(asking::overdue(table, tick, late))
 }

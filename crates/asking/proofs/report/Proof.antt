@@ -1,33 +1,29 @@
 -- The three tests are the three cases, in their order.
-use Rattle.arbiter.specs.Prelude.{Bounds, Surveyed, ap, fine, le-leb, live, lt-leb, needs, none, not, not-false, outcome-is, past, subst, sym, this, true, _∙_, _≡_, Seen}
-use Rattle.arbiter.specs.ChangeLaws.{seen-by, sound-by}
-use Rattle.arbiter.specs.Bounded.{boundsOf}
-use Rattle.arbiter.specs.Meaning.{report}
-use Rattle.arbiter.specs.Sound.{rowIn, sound}
-use Rattle.arbiter.proofs.Surveys.{report-is}
-use Rattle.arbiter.proofs.table.Table.report.Statement.{statement}
-use Rattle.arbiter.proofs.table.Table.report.Tie as tie
+use Rattle.asking.specs.Prelude.{Seen, Surveyed, _∙_, _≡_, ap, boundsOf, fine, le-leb, live, lt-leb, needs, none, not, not-false, outcome-is, past, report, rowIn, seen-by, sound, sound-by, surveyed-by, sym, this, true}
+use Rattle.asking.proofs.Surveys.{report-is}
+use Rattle.asking.proofs.report.Statement.{statement}
+use Rattle.asking.proofs.report.Tie as tie
 
 -- the survey is of this table
 surveyed :
     (c : tie.After-survey) →
     let a = c .before .before .before .args in
-    Surveyed (boundsOf (a .self)) (a .self .rows) (a .job) (c .survey .result)
+    Surveyed (boundsOf (a .table)) (a .table .rows) (a .job) (c .survey .result)
 surveyed c =
     let a = c .before .before .before .args in
-    subst (λ (b : Bounds). Surveyed b (a .self .rows) (a .job) (c .survey .result)) (c .before .bounds .ensures) (c .survey .ensures)
+    surveyed-by (c .before .bounds .result) (a .table) (c .before .bounds .ensures) (c .survey .ensures)
 
 -- it tells whether the table is sound
-tells : (c : tie.After-survey) → sound (c .before .before .before .args .self) ≡ c .survey .result .seen .sound
-tells c = sym (surveyed c .told ∙ sound-by (c .before .before .before .args .self))
+tells : (c : tie.After-survey) → sound (c .before .before .before .args .table) ≡ c .survey .result .seen .sound
+tells c = sym (surveyed c .told ∙ sound-by (c .before .before .before .args .table))
 
 -- and, where it is, the row of the job
 same-row :
     (c : tie.After-survey) → c .survey .result .seen .sound ≡ true →
-    live (c .survey .result .seen .row) ≡ live (rowIn (c .before .before .before .args .self) (c .before .before .before .args .job))
+    live (c .survey .result .seen .row) ≡ live (rowIn (c .before .before .before .args .table) (c .before .before .before .args .job))
 same-row c ok =
     let a = c .before .before .before .args in
-    ap (λ (s : Seen). live (s .row)) (surveyed c .known (sym (surveyed c .told) ∙ ok) .sees ∙ seen-by (a .self) (a .job))
+    ap (λ (s : Seen). live (s .row)) (surveyed c .known (sym (surveyed c .told) ∙ ok) .sees ∙ seen-by (a .table) (a .job))
 
 returns : tie.Need-returns
 unfolding report
@@ -62,7 +58,7 @@ returns-4 c =
     let no = c .before .before .before .before .before .before .before .before .before .if1 .left in
     let ok = not-false _ no in
     let known = surveyed at .known (sym (surveyed at .told) ∙ ok) in
-    ap fine (report-is (a .self) (a .job) (at .survey .result) known _ _ (c .before .waiting .ensures) (c .in-way .ensures))
+    ap fine (report-is (a .table) (a .job) (at .survey .result) known _ _ (c .before .waiting .ensures) (c .in-way .ensures))
     ∙ outcome-is _
     (past (ap not (tells at) ∙ no)
     (past (lt-leb _ _ (c .before .before .before .before .before .before .before .before .if2 .left))

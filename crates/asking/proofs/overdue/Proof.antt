@@ -1,35 +1,28 @@
 -- A refusal leaves the list; an accepted question lists who is overdue.
-use Rattle.arbiter.specs.Prelude.{Bounds, Surveyed, acceptance-tells, ap, fine, lt-ltb, outcome-is, refusal-tells, subst, sym, this, timeFrom, ℕ, _∙_, Beat, Count, List, Listed, No, Refusal, ShortList, Table, _≡_, lateIn, length, momentOf, numberOf, outcome, over, refused, le-ltb, needs, outcome-past, soundBy, true}
-use Rattle.decision.specs.Changes.{refusalCases}
-use Rattle.arbiter.specs.Bounded.{boundsOf}
-use Rattle.arbiter.specs.Meaning.{late, overdue, overdueList, timeAt}
-use Rattle.arbiter.specs.Promises.{OverdueAnswered}
-use Rattle.arbiter.specs.Refusals.{overdueCases, seenIn}
-use Rattle.arbiter.specs.ChangeLaws.{sound-by}
-use Rattle.decision.specs.Accepting.{judged, saw-sound}
-use Rattle.arbiter.proofs.Surveys.{listed-by, seen-tells}
-use Rattle.arbiter.proofs.table.Table.overdue.Statement.{statement}
-use Rattle.arbiter.proofs.table.Table.overdue.Tie as tie
+use Rattle.asking.specs.Prelude.{Beat, Bounds, Count, List, Listed, No, OverdueAnswered, Refusal, ShortList, Surveyed, Table, _∙_, _≡_, acceptance-tells, ap, boundsOf, fine, judged, late, lateIn, le-ltb, length, lt-ltb, momentOf, needs, numberOf, outcome, outcome-is, outcome-past, over, overdue, overdueCases, overdueList, refusal-tells, refusalCases, refused, saw-sound, seenIn, sound-by, soundBy, subst, surveyed-by, sym, this, timeAt, timeFrom, true, ℕ}
+use Rattle.asking.proofs.Surveys.{listed-by, seen-tells}
+use Rattle.asking.proofs.overdue.Statement.{statement}
+use Rattle.asking.proofs.overdue.Tie as tie
 
 -- the survey is of this table
 surveyed :
     (c : tie.After-survey) →
     let a = c .before .before .before .before .before .args in
-    Surveyed (boundsOf (a .self)) (a .self .rows) 0 (c .survey .result)
+    Surveyed (boundsOf (a .table)) (a .table .rows) 0 (c .survey .result)
 surveyed c =
     let a = c .before .before .before .before .before .args in
-    subst (λ (b : Bounds). Surveyed b (a .self .rows) 0 (c .survey .result)) (c .before .bounds .ensures) (c .survey .ensures)
+    surveyed-by (c .before .bounds .result) (a .table) (c .before .bounds .ensures) (c .survey .ensures)
 
 -- the verdict is that by the table
 judges :
     (c : tie.After-clock-verdict) →
     let a = c .before .before .before .before .before .before .before .args in
     momentOf (c .clock-verdict .result)
-    ≡ outcome (refusalCases (seenIn (a .self) 0) (Beat (a .tick))) (timeAt (a .self) (a .tick .0))
+    ≡ outcome (refusalCases (seenIn (a .table) 0) (Beat (a .tick))) (timeAt (a .table) (a .tick .0))
 judges c =
     let a = c .before .before .before .before .before .before .before .args in
     c .clock-verdict .ensures
-    ∙ seen-tells (a .self) (Beat (a .tick)) (c .before .before .survey .result) (surveyed (c .before .before))
+    ∙ seen-tells (a .table) (Beat (a .tick)) (c .before .before .survey .result) (surveyed (c .before .before))
     (λ s. timeFrom (s .time) (a .tick .0))
 
 -- a refusal is told, and leaves the list
@@ -63,7 +56,7 @@ accepts t tick before after n x v listed =
 returns : tie.Need-returns
 returns c =
     let a = c .before .before .args in
-    refuses (a .self) (a .tick .0) (a .late .now) ShortList (timeAt (a .self) (a .tick .0)) (outcome-is _ (this (lt-ltb _ _ (c .if1 .taken))))
+    refuses (a .table) (a .tick .0) (a .late .now) ShortList (timeAt (a .table) (a .tick .0)) (outcome-is _ (this (lt-ltb _ _ (c .if1 .taken))))
 
 list-late-requires : tie.Need-list-late-requires
 list-late-requires c κs =
@@ -71,8 +64,8 @@ list-late-requires c κs =
     let known = at .before .before in
     let a = known .before .before .before .before .before .args in
     let v = judged (c .before .before .before .before .verdict2 .given .1) (judges at) in
-    let ok = sound-by (a .self) ∙ saw-sound (seenIn (a .self) 0) (Beat (a .tick)) _ _ v in (
-      (surveyed known .known ok .lines, subst (λ (b : Bounds). soundBy b (a .self .rows) ≡ true) (sym (c .before .bounds2 .ensures)) ok),
+    let ok = sound-by (a .table) ∙ saw-sound (seenIn (a .table) 0) (Beat (a .tick)) _ _ v in (
+      (surveyed known .known ok .lines, subst (λ (b : Bounds). soundBy b (a .table .rows) ≡ true) (sym (c .before .bounds2 .ensures)) ok),
       known .before .before .before .if1 .left,
     )
 
@@ -80,7 +73,7 @@ returns-2 : tie.Need-returns-2
 returns-2 c =
     let at = c .before .before .before in
     let a = at .before .before .before .before .before .before .before .args in
-    refuses (a .self) (a .tick .0) (a .late .now) _ (timeAt (a .self) (a .tick .0))
+    refuses (a .table) (a .tick .0) (a .late .now) (c .before .verdict .given .0 .0) (timeAt (a .table) (a .tick .0))
     (judged (c .before .verdict .given .1) (judges at)
     ∙ outcome-past _ _ _ _ (le-ltb _ _ (at .before .before .before .before .before .if1 .left)))
 
@@ -89,9 +82,9 @@ returns-3 c =
     let at = c .before .before .before .before .before .before .before .before .before in
     let a = at .before .before .before .before .before .before .before .args in
     let v = judged (c .before .before .before .before .before .before .before .verdict2 .given .1) (judges at) in
-    accepts (a .self) (a .tick .0) (a .late .now) _ _ _
+    accepts (a .table) (a .tick .0) (a .late .now) _ _ _
     (v ∙ outcome-past _ _ _ _ (le-ltb _ _ (at .before .before .before .before .before .if1 .left)))
-    (listed-by (c .before .before .before .before .bounds2 .result) (a .self) (c .before .before .before .before .bounds2 .ensures) (a .self .rows) _
+    (listed-by (c .before .before .before .before .bounds2 .result) (a .table) (c .before .before .before .before .bounds2 .ensures) (a .table .rows) _
     (c .before .before .list-late .ensures))
 
 pub overdue-spec : {M : Type 1} → statement M
