@@ -1,7 +1,8 @@
 /* The lock arbiter for firmware in C: the calls on a table, the writing of records and service files.
  *
- * A table goes into a call by value and the next one comes back; nothing is changed in place, and no call remembers
- * anything. docs/FIRMWARE.md says what each call promises and what its caller owes. */
+ * A call whose name ends in _in takes a pointer to the caller's table and changes it, and one that ends in _of reads it;
+ * the others take a table by value and hand the next one back. Both are answered alike, and no call remembers anything.
+ * docs/FIRMWARE.md says what each call promises and what its caller owes. */
 #ifndef NORAKKEUN_H
 #define NORAKKEUN_H
 
@@ -14,6 +15,7 @@ extern "C" {
 #endif
 
 enum {
+    NORAKKEUN_VERSION = 1,        /* what norakkeun_version() answers in the archive that this header belongs to */
     NORAKKEUN_JOBS = 64,          /* jobs 0 to 63, and so the shortest list that may be lent */
     NORAKKEUN_RECORD = 14,        /* bytes of a record */
     NORAKKEUN_LONGEST_FILE = 2647 /* bytes of the service file of a table with 64 live rows */
@@ -95,6 +97,13 @@ typedef struct norakkeun_told {
     norakkeun_table table;
 } norakkeun_told;
 
+/* What an event in place is told, and how many jobs it woke; the table is the caller's own. */
+typedef struct norakkeun_answer {
+    uint32_t refusal;
+    uint32_t said;
+    uint32_t woken;
+} norakkeun_answer;
+
 /* What is told of a live request. */
 typedef struct norakkeun_report_of_job {
     norakkeun_turn turn;
@@ -121,6 +130,9 @@ typedef struct norakkeun_saved {
     uint32_t refusal;
     uint32_t length;
 } norakkeun_saved;
+
+/* Which archive is linked: the number of the release whose header says the same as NORAKKEUN_VERSION. */
+uint32_t norakkeun_version(void);
 
 /* The first table: all rows idle, true time is the tick. A refused start gives the all-zero table, which is not sound. */
 norakkeun_told norakkeun_start(uint32_t tokens, uint32_t resources, norakkeun_tick tick, uint32_t limit);
@@ -154,6 +166,22 @@ norakkeun_job_report norakkeun_report(norakkeun_table table, uint32_t job);
 /* The jobs whose wait up to this tick is the limit or more stand at the front of the lent list in order of turn; later
  * entries keep what they had. The clock does not move; the tick must lie within the hour after true time. */
 norakkeun_late_jobs norakkeun_overdue(norakkeun_table table, norakkeun_tick tick, uint8_t *late, size_t length);
+
+/* ---- the same in place: the events change the caller's table, the questions read it
+ *
+ * What *table holds afterwards is the next table of the call by value, and the answer its answer. On a refusal *table is as
+ * it was, byte for byte. The pointer is not null, and nobody else reads or writes *table during the call. */
+
+norakkeun_answer norakkeun_beat_in(norakkeun_table *table, norakkeun_tick tick);
+norakkeun_answer norakkeun_open_in(norakkeun_table *table, uint32_t job, norakkeun_tick tick, uint64_t set);
+norakkeun_answer norakkeun_ask_in(norakkeun_table *table, uint32_t job, norakkeun_tick tick, uint64_t set);
+norakkeun_answer norakkeun_release_in(norakkeun_table *table, uint32_t job, norakkeun_tick tick, uint64_t set);
+norakkeun_answer norakkeun_complete_in(norakkeun_table *table, uint32_t job, norakkeun_tick tick, uint8_t *woken,
+                                       size_t length);
+norakkeun_answer norakkeun_give_up_in(norakkeun_table *table, uint32_t job, norakkeun_tick tick, uint64_t set,
+                                      uint8_t *woken, size_t length);
+norakkeun_job_report norakkeun_report_of(const norakkeun_table *table, uint32_t job);
+norakkeun_late_jobs norakkeun_overdue_of(const norakkeun_table *table, norakkeun_tick tick, uint8_t *late, size_t length);
 
 /* Writing what is handed to the arbiter as a record: 14 bytes at the front of the lent room; later bytes keep what they
  * had. Each gives 0, or 1, 4 or 17 and the room is as before. */
