@@ -83,7 +83,7 @@ fn with_row(t: Table, time: u64, last: Turn, k: usize, row: Row) -> Table
 }
 
 // What an event comes to on a table that was surveyed for it.
-fn found(s: Survey, tokens: u32, event: Event) -> Decision
+pub fn found(s: Survey, tokens: u32, event: Event) -> Decision
     requires { ⌜ (s .seen .sound ≡ true → s .seen .last .0 < 2 ^ 63) ⌝ }
     ensures { λ d. ⌜ Finds s tokens event d ⌝ }
 {

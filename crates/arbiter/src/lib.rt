@@ -3,6 +3,7 @@ mod calls;
 mod table;
 
 pub use calls::bounds;
+pub use calls::found;
 pub use table::Late;
 pub use table::Next;
 pub use table::Report;

@@ -1,6 +1,5 @@
 -- From a call's own promise to the same in numbers.
-use Rattle.norakkeun.specs.Prelude.{Answered, Event, Next, Table, Told, eventInNumbers, saidOf, ℕ, _∙_, _≡_}
-use Rattle.norakkeun.specs.Promises.{eventTold}
+use Rattle.norakkeun.specs.Prelude.{Answered, Event, Next, Table, Told, eventInNumbers, eventTold, saidOf, ℕ, _∙_, _≡_}
 
 pub numbered :
     {n : ℕ} {t : Table} {e : Event} {x : Next} {r : Told} → Answered n t e x →

@@ -7,5 +7,5 @@ pub use Rattle.arbiter.specs.Answers.{saidOf}
 pub use Rattle.arbiter.specs.Promises.{Answered}
 pub use Rattle.arbiter.specs.declared.table.Next.{Next}
 pub use Rattle.arbiter.specs.declared.table.Table.{Table}
-pub use Rattle.numbers.specs.Numbers.{eventInNumbers}
+pub use Rattle.numbers.specs.Numbers.{eventInNumbers, eventTold}
 pub use Rattle.numbers.specs.declared.Told.{Told}

@@ -3,8 +3,11 @@ use Prim.Native.Nat.{ℕ}
 use mathlib.Core.Bool.{false}
 use Rattle.laws.specs.Cases.{Outcome, fine, refused}
 use Rattle.arbiter.specs.Answers.{Said, saysDone, saysGranted, saysToken, saysWait, saysWoke}
+use Rattle.arbiter.specs.Meaning.{answer, next}
 use Rattle.arbiter.specs.declared.table.Report.{Report}
 use Rattle.arbiter.specs.declared.table.Table.{Table}
+use Rattle.event.specs.declared.events.Event.{Event}
+use Rattle.numbers.specs.declared.EventAnswer.{EventAnswer}
 use Rattle.numbers.specs.declared.JobReport.{JobReport}
 use Rattle.numbers.specs.declared.LateJobs.{LateJobs}
 use Rattle.numbers.specs.declared.SavedFile.{SavedFile}
@@ -33,9 +36,21 @@ wokenIn (fine saysWait) = 0
 wokenIn (fine saysDone) = 0
 wokenIn (fine (saysWoke n)) = n
 
+-- an event's answer
+abbrev pub answerInNumbers : Outcome Said → EventAnswer
+answerInNumbers o = record { refusal = refusalIn o; said = saidIn o; woken = wokenIn o }
+
 -- an event's answer and the next table
 abbrev pub eventInNumbers : Outcome Said → Table → Told
 eventInNumbers o t = record { refusal = refusalIn o; said = saidIn o; woken = wokenIn o; table = t }
+
+-- what event e on table t is told, with a list of n entries lent
+abbrev pub eventTold : ℕ → Table → Event → Told
+eventTold n t e = eventInNumbers (answer n t e) (next n t e)
+
+-- the three numbers of what an event is told
+abbrev pub numbersOf : Told → EventAnswer
+numbersOf t = record { refusal = t .refusal; said = t .said; woken = t .woken }
 
 -- the report where there is none
 abbrev pub noReport : Report

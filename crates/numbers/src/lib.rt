@@ -3,7 +3,7 @@ ghost use mathlib.Core.Path.{_≡_};
 ghost use Rattle.arbiter.specs.Answers.{lateOf, reportOf, saidOf};
 ghost use Rattle.saving.specs.Meaning.{savedOf};
 ghost use Rattle.writing.specs.Meaning.{writingOf};
-ghost use Rattle.numbers.specs.Numbers.{eventInNumbers, lateInNumbers, refusalIn, reportInNumbers, savedInNumbers};
+ghost use Rattle.numbers.specs.Numbers.{answerInNumbers, eventInNumbers, lateInNumbers, refusalIn, reportInNumbers, savedInNumbers};
 use arbiter::Late;
 use arbiter::Next;
 use arbiter::Report;
@@ -35,6 +35,14 @@ pub struct Told {
     pub table: Table,
 }
 
+// What an event is told and how many jobs it woke, where the next table stands elsewhere.
+#[repr(C)]
+pub struct EventAnswer {
+    pub refusal: u32,
+    pub said: u32,
+    pub woken: u32,
+}
+
 // What is told of a job's request; with a refusal all of the report is 0.
 #[repr(C)]
 pub struct JobReport {
@@ -56,35 +64,46 @@ pub struct SavedFile {
     pub length: u32,
 }
 
+// An event's answer.
+pub fn answer_in_numbers(answer: Answer) -> EventAnswer
+    ensures { λ r. ⌜ r ≡ answerInNumbers (saidOf answer) ⌝ }
+{
+    match answer {
+        Answer::No(refusal) => EventAnswer {
+            refusal: number(refusal),
+            said: 0,
+            woken: 0,
+        },
+        Answer::Token => accepted(TOKEN, 0),
+        Answer::Granted => accepted(GRANTED, 0),
+        Answer::Wait => accepted(WAIT, 0),
+        Answer::Done => accepted(DONE, 0),
+        Answer::Woke(woken) => accepted(WOKE, woken),
+    }
+}
+
+// An accepted event.
+fn accepted(said: u32, woken: u32) -> EventAnswer
+    ensures { λ r. ⌜ r ≡ record { refusal = 0; said = said; woken = woken } ⌝ }
+{
+    EventAnswer {
+        refusal: 0,
+        said,
+        woken,
+    }
+}
+
 // An event's answer and the next table.
 pub fn event_in_numbers(next: Next) -> Told
     ensures { λ r. ⌜ r ≡ eventInNumbers (saidOf (next .answer)) (next .table) ⌝ }
 {
     let answer = next.answer;
     let table = next.table;
-    match answer {
-        Answer::No(refusal) => Told {
-            refusal: number(refusal),
-            said: 0,
-            woken: 0,
-            table,
-        },
-        Answer::Token => accepted(TOKEN, 0, table),
-        Answer::Granted => accepted(GRANTED, 0, table),
-        Answer::Wait => accepted(WAIT, 0, table),
-        Answer::Done => accepted(DONE, 0, table),
-        Answer::Woke(woken) => accepted(WOKE, woken, table),
-    }
-}
-
-// An accepted event.
-fn accepted(said: u32, woken: u32, table: Table) -> Told
-    ensures { λ r. ⌜ r ≡ record { refusal = 0; said = said; woken = woken; table = table } ⌝ }
-{
+    let told = answer_in_numbers(answer);
     Told {
-        refusal: 0,
-        said,
-        woken,
+        refusal: told.refusal,
+        said: told.said,
+        woken: told.woken,
         table,
     }
 }

@@ -1,0 +1,5 @@
+-- What is said of calls in place.
+pub mod Prelude
+pub mod Promises
+pub mod Putting
+pub mod PuttingLaws
