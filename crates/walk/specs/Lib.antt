@@ -1,4 +1,6 @@
 -- What is said of the walk.
+pub mod Pace
+pub mod PaceLaws
 pub mod Prelude
 pub mod Walk
 pub mod WalkLaws

@@ -1,7 +1,9 @@
 // The walk along the line.
-ghost use mathlib.Core.Bool.{false};
+ghost use Prim.Native.Nat.{_<_};
 ghost use mathlib.Core.Path.{_≡_};
+ghost use Rattle.event.specs.Limits.{jobs};
 ghost use Rattle.line.specs.LineInCode.{Lines};
+ghost use Rattle.walk.specs.Pace.{begun, finished, follows, paced};
 ghost use Rattle.walk.specs.Walk.{Walks};
 use event::JOBS;
 use laws::sets;
@@ -24,55 +26,97 @@ pub struct Walked {
     pub row: Row,
 }
 
-// The table is not sound. Nobody asks what was found in it; that it is handed back as it stands spares the loop from
-// setting it to anything else.
-fn unsound(standing: Standing, row: Row) -> Walked
-    ensures { λ w. ⌜ w .sound ≡ false ⌝ }
+// How far a walk has come: what stands before the next job, what was found of the job that is looked for, the last turn
+// passed, and whether all rows so far are sound. Where they are not, nobody asks for the rest.
+struct Pace {
+    s: Standing,
+    standing: Standing,
+    row: Row,
+    passed: Turn,
+    sound: bool,
+}
+
+// Before the first job.
+fn begun() -> Pace
+    ensures { λ w. ⌜ w ≡ begun ⌝ }
 {
-    Walked {
-        sound: false,
-        standing,
-        row,
+    let passed = Turn(0);
+    Pace {
+        s: front(),
+        standing: front(),
+        row: idle(),
+        passed,
+        sound: true,
     }
 }
 
-// Goes along the line. Each turn must be above the one before, and each row sound beside what stands before it; that no
-// turn is above the last one given, and that all resources are below R, is tested once, at the end.
-pub fn walk(rows: [Row; JOBS], line: Line, b: Bounds, job: u32) -> Walked
-    requires { ⌜ Lines rows line ⌝ }
-    ensures { λ w. ⌜ Walks b rows job w ⌝ }
+// Whether a row may come next in line: its turn is above the last one passed, and it is sound beside what stands before it.
+fn follows(r: Row, last: Turn, s: Standing, b: Bounds) -> bool
+    ensures { λ t. ⌜ t ≡ follows r last s b ⌝ }
 {
-    let jobs = line.jobs;
-    let len = line.len;
-    let mut s = front();
-    let mut standing = front();
-    let mut row = idle();
-    let mut passed = Turn(0);
-    let mut p = 0;
-    while p < len {
-        let k = jobs[p];
-        let r = rows[k as usize];
-        let turn = r.turn;
-        if !earlier(passed, turn) {
-            return unsound(standing, row);
-        }
-        if !live_sound(r, s, b.tokens, b.time) {
-            return unsound(standing, row);
-        }
-        let next = behind(s, r);
-        if k as u32 == job {
-            standing = s;
-            row = r;
-        }
-        s = next;
-        passed = turn;
-        p += 1;
+    let turn = r.turn;
+    earlier(last, turn) && live_sound(r, s, b.tokens, b.time)
+}
+
+// One job further.
+fn further(w: Pace, k: u8, r: Row, b: Bounds, job: u32) -> Pace
+    requires { ⌜ w .s .ahead < jobs ⌝ }
+    ensures { λ v. ⌜ v ≡ paced w k r b job ⌝ }
+{
+    let before = w.s;
+    let last = w.passed;
+    let mut standing = w.standing;
+    let mut row = w.row;
+    let sound = follows(r, last, before, b);
+    let s = behind(before, r);
+    let passed = r.turn;
+    if k as u32 == job {
+        standing = before;
+        row = r;
     }
+    Pace {
+        s,
+        standing,
+        row,
+        passed,
+        sound,
+    }
+}
+
+// At the end of the line: that no turn is above the last one given, and that all resources are below R, is tested once.
+fn finished(w: Pace, b: Bounds) -> Walked
+    ensures { λ r. ⌜ r ≡ finished w b ⌝ }
+{
+    let s = w.s;
+    let passed = w.passed;
     let last = b.last;
-    let sound = !earlier(last, passed) & sets::below(s.claims, b.resources);
+    let standing = w.standing;
+    let row = w.row;
+    let sound = w.sound & (!earlier(last, passed) & sets::below(s.claims, b.resources));
     Walked {
         sound,
         standing,
         row,
     }
+}
+
+// Goes along the line over lent rows, as far as they are sound.
+pub fn walk_of(rows: &[Row; JOBS], line: Line, b: Bounds, job: u32) -> Walked
+    requires { ⌜ Lines (now rows) line ⌝ }
+    ensures { λ w. ⌜ Walks b (now (rows .entry)) job w ⌝ }
+{
+    let jobs = line.jobs;
+    let len = line.len;
+    let mut w = begun();
+    let mut p = 0;
+    while p < len {
+        let k = jobs[p];
+        let r = rows[k as usize];
+        w = further(w, k, r, b, job);
+        if !w.sound {
+            return finished(w, b);
+        }
+        p += 1;
+    }
+    finished(w, b)
 }

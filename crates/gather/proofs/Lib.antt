@@ -1,0 +1,2 @@
+-- What the walks over lent rows share.
+mod Walk
