@@ -7,8 +7,8 @@ ghost use Rattle.event.specs.Limits.{jobs};
 ghost use Rattle.event.specs.Refusals.{numberOf};
 ghost use Rattle.in_place.specs.Promises.{InPlace};
 ghost use Rattle.in_place.specs.Putting.{Puts, PutsBy, Rests, Writable, written};
+use crate::looking::survey_in;
 use arbiter::Table;
-use arbiter::bounds;
 use arbiter::found;
 use decision::Answer;
 use decision::Decision;
@@ -18,7 +18,6 @@ use event::parts_of;
 use numbers::EventAnswer;
 use numbers::answer_in_numbers;
 use pass::Survey;
-use pass::survey;
 use rows::Row;
 use rows::Turn;
 use rows::idle;
@@ -73,23 +72,14 @@ fn put_by(s: Survey, tokens: u32, event: Event) -> Put
     }
 }
 
-// The same on a table by value.
-fn put_of(t: Table, event: Event) -> Put
-    requires { ⌜ about event .wakes ≡ false ⌝ }
-    ensures { λ p. ⌜ Puts t event p ⌝ }
-{
-    let parts = parts_of(event);
-    let rows = t.rows;
-    let s = survey(rows, bounds(t), parts.job);
-    put_by(s, t.tokens, event)
-}
-
 // What an event that wakes nobody writes on a table that is lent.
 fn weigh(table: &Table, event: Event) -> Put
     requires { ⌜ about event .wakes ≡ false ⌝ }
     ensures { λ p. ⌜ Puts (now (table .entry)) event p ⌝ }
 {
-    put_of(*table, event)
+    let parts = parts_of(event);
+    let s = survey_in(table, parts.job);
+    put_by(s, table.tokens, event)
 }
 
 // Writes that.

@@ -5,3 +5,4 @@ mod whole;
 
 pub use known::Survey;
 pub use whole::survey;
+pub use whole::survey_of;

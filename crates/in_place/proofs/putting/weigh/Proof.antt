@@ -1,94 +1,144 @@
--- A walk of the code by hand: the table is read behind its reference, and `put_of` is called on it. Of `put_of` the contract alone is used.
-use Rattle.in_place.proofs.Walk.{Atoms, Calls, Contract, FmC, Fun, GName, Given, Heap, Is, Lft, List, Loops, Memory, RefT, Routine, SProp, Share, ShrRef, Stays, Triple, URA, Val, WpFn, WpFn-mono, [], _$_, _∵_, _∷_, _≡_, _⊛_, alloc0, alloc1, and-then, answers, assigns, by, calls-at, cited, done, drop, ends-at, ensured, ent, enter, entered, exE, fact, feqI, fjoin, fjoin3, flft, fmOf, forget, frame, free0, free1, fres, from, fshr-bor, fsplit, fsplit3, ftrue, givenOf, goes-none, goes-none-ref, hop, init, join, keep, land, lasts, load, look, look-raw, looks, move, named, needs, no-more, nothing, of-opd, onEntry, owned, owns, params1, partAt, pass0, pass1, peeks, plain, ptr-vals, qed, raw, refl, returns, says, sem, sep, shows, shr-tells, shuts, snd∗, spelt, split, stay-none, stay-none-ref, stop, suffices, tables, tablesOf, tripleOf, use1, vptr, walk-meets, walkOf, walked, yes, ‵, ℕ, ⋆, ! }
-use mathlib.Core.Bool.{false}
+-- A walk of the code by hand: the lent table goes to `survey_in`, its tokens are read, and `put_by` is called on what was seen. Of all that is called the contract alone is used.
+use Rattle.in_place.proofs.Walk.{Atoms, Calls, Contract, FmC, Fun, GName, Given, Heap, Is, Lft, List, Loops, Memory, RefOf, RefT, Routine, SProp, Share, ShrRef, Stays, Triple, URA, Val, WpFn, WpFn-mono, [], _$_, _∙_, _∵_, _∷_, _≡_, _⊛_, alloc0, alloc1, and-then, answers, ap, assigns, by, calls-at, cited, done, drop, ends-at, ensured, ent, enter, entered, exE, fact, fat, fjoin, fld, flft, fmOf, forget, frame, free0, free1, from, fsplit, fsplit3, ftrue, fullShare, givenOf, goes-dropped, hop, init, join, keep, land, lasts, load, look, look-in, looks, move, named, needs, no-more, nothing, of-opd, onEntry, only, owned, owns, params1, pass0, pass1, peeks, plain, ptr-vals, qed, raw, refl, returns, rewrite, says, sem, shows, shr-copy, shr-tells, shuts, snd∗, spelt, split, stay-dropped, stop, sub, subst, suffices, sym, tables, tablesOf, tripleOf, u32, uint-makes, use1, use2, vint, vptr, w32, walk-meets, walkOf, walked, whole, yes, ‵, ℕ, ⋆, ! }
+use base.Fml.{Fml}
 use denote.Enum.Laws as EL
 use denote.Struct.Laws as LL
-use Rattle.event.specs.Events.{about}
-use Rattle.event.specs.declared.events.Event.{Event}
+use Rattle.in_place.specs.Prelude.{Event, Surveyed, Table, about, boundsOf, false, jobOf, last-seen}
+use Rattle.event.specs.Events.{partsOf}
+use Rattle.event.specs.declared.events.Parts.{Parts}
 use Rattle.event.proofs.events.Event as Ev
 use Rattle.event.proofs.events.Event.Laws as Ev′
-use Rattle.arbiter.specs.declared.table.Table.{Table}
+use Rattle.event.proofs.events.Parts as Q
+use Rattle.event.proofs.events.Parts.Laws as Q′
+use Rattle.event.proofs.parts_of as parts-of
+use Rattle.event.proofs.parts_of.Met as parts-of-met
+use Rattle.event.proofs.parts_of.Symbol as parts-of-symbol
+use Rattle.event.proofs.parts_of.Symbol.{name as #parts-of}
+use Rattle.pass.specs.declared.known.Survey.{Survey}
+use Rattle.pass.proofs.known.Survey as S
+use Rattle.pass.proofs.known.Survey.Laws as S′
 use Rattle.arbiter.proofs.table.Table as T
 use Rattle.arbiter.proofs.table.Table.Laws as T′
-use Rattle.in_place.specs.Putting.{Puts}
+use Rattle.in_place.specs.Putting.{Puts, PutsBy}
 use Rattle.in_place.specs.declared.putting.Put.{Put}
+use Rattle.in_place.proofs.looking.survey_in as survey-in
+use Rattle.in_place.proofs.looking.survey_in.Met as survey-in-met
+use Rattle.in_place.proofs.looking.survey_in.Symbol as survey-in-symbol
+use Rattle.in_place.proofs.looking.survey_in.Symbol.{name as #survey-in}
 use Rattle.in_place.proofs.putting.Put as P
 use Rattle.in_place.proofs.putting.Put.Laws as P′
-use Rattle.in_place.proofs.putting.put_of as put-of
-use Rattle.in_place.proofs.putting.put_of.Met as put-of-met
-use Rattle.in_place.proofs.putting.put_of.Symbol as put-of-symbol
-use Rattle.in_place.proofs.putting.put_of.Symbol.{name as #put-of}
+use Rattle.in_place.proofs.putting.put_by as put-by
+use Rattle.in_place.proofs.putting.put_by.Met as put-by-met
+use Rattle.in_place.proofs.putting.put_by.Symbol as put-by-symbol
+use Rattle.in_place.proofs.putting.put_by.Symbol.{name as #put-by}
 use Rattle.in_place.proofs.putting.weigh as weigh
 use Rattle.in_place.proofs.putting.weigh.Code as code
 use Rattle.in_place.proofs.putting.weigh.Key.{name as #weigh}
 use Rattle.in_place.proofs.putting.weigh.Statement.{statement}
 
 abbrev stayed : Stays (weigh.ended .signature .params) (weigh.ended .kept)
-stayed = (stay-none-ref (0 ∷ []) tt (plain (λ _. T.the-row)) yes, (stay-none (λ _. Ev.the-row) yes, tt))
+stayed = (stay-dropped (RefOf (0 ∷ []) tt (plain (λ _. T.the-row)) (λ _. tt)) yes, (stay-dropped (plain (λ _. Ev.the-row)) yes, tt))
 
 module _ {M : Type 1} (𝓤 : URA M) (H : Heap 𝓤) (A : Atoms 𝓤) (W : Given 𝓤 H A) (at-mem : Memory → SProp 𝓤) (run : Routine → Fun 𝓤) where
-  -- what is known of the callee
-  abbrev PutOf : Contract 𝓤
-  PutOf = tripleOf 𝓤 H A put-of.signature (put-of.spec 𝓤 H A at-mem run)
+  -- what is known of the callees
+  abbrev PartsOf : Contract 𝓤
+  PartsOf = tripleOf 𝓤 H A parts-of.signature (parts-of.spec 𝓤 H A at-mem run)
 
-  module _ (κ : Lft) (q : Share) (b o : ℕ) (γ : GName) (h : Table) (e : Event) where
-    abbrev x : RefT Table × (Event × Unit {0})
-    x = (record { ptr = (b, o); name = γ; now = h }, (e, tt))
+  abbrev SurveyIn : Contract 𝓤
+  SurveyIn = tripleOf 𝓤 H A survey-in.signature (survey-in.spec 𝓤 H A at-mem run)
+
+  abbrev PutBy : Contract 𝓤
+  PutBy = tripleOf 𝓤 H A put-by.signature (put-by.spec 𝓤 H A at-mem run)
+
+  module _ (κ : Lft) (q : Share) (b o : ℕ) (γ : GName) (t : Table) (e : Event) (quiet : about e .wakes ≡ false) where
+    abbrev lent : RefT Table
+    lent = record { ptr = (b, o); name = γ; now = t }
+
+    abbrev Lent : Fml
+    Lent = ShrRef (named 0) κ T.the-row .own lent (vptr b o ∷ [])
 
     abbrev at : List Val × (List Val × Unit {0})
     at = (vptr b o ∷ [], (Ev′.lowered e ∷ [], tt))
 
     abbrev Post : Val → SProp 𝓤
-    Post = walkOf 𝓤 H A weigh.ended stayed (weigh.clauses 𝓤 H A at-mem run) .post (((κ, tt), (q, tt), tt, x, at), tt)
+    Post = walkOf 𝓤 H A weigh.ended stayed (weigh.clauses 𝓤 H A at-mem run) .post (((κ, tt), (q, tt), tt, (lent, (e, tt)), at), tt)
 
-    -- what the callee is passed
-    abbrev to : PutOf .Ghost
-    to = ((tt, tt, tt, (h, (e, tt)), (T′.lowered h ∷ [], (Ev′.lowered e ∷ [], tt))), tt)
+    exits : (p : Put) (u : Val) → Puts t e p → ent 𝓤 (⋆ 𝓤 H A (‵ (flft κ q) ∷ ‵ (P.the-row .own p (u ∷ [])) ∷ [])) (Post u)
+    exits p u puts =
+        qed W (‵ (flft κ q) ∷ ‵ (P.the-row .own p (u ∷ [])) ∷ []) ∵
+        suffices ! _ (ends-at 𝓤 H A weigh.ended stayed (weigh.clauses 𝓤 H A at-mem run) W (((κ, tt), (q, tt), tt, (lent, (e, tt)), at), tt) u p (tt, (tt, tt)) (tt, (tt, tt))) $
+        says ! puts $ nothing ! $ move ! (1 ∷ 0 ∷ []) $ join ! $ frame ! $ nothing ! $ nothing ! $ fjoin ! $ nothing ! $ fjoin ! $ frame ! $ done !
 
-    goes :
-        about e .wakes ≡ false → Is T.the-row h (T′.lowered h ∷ []) → Is Ev.the-row e (Ev′.lowered e ∷ []) →
-        ent 𝓤 (sem 𝓤 H A ftrue) (PutOf .pre to)
-    goes quiet is-h is-e =
-        qed W (‵ ftrue ∷ []) ∵ says ! quiet $ nothing ! $ owned ! Ev.the-row (Is Ev.the-row) ((EL.makes Ev.the-type Ev′.the-plain) 𝓤 H A) e _ is-e $ fjoin ! $
-        owned ! T.the-row (Is T.the-row) ((LL.makes T.the-type T′.the-plain) 𝓤 H A) h _ is-h $ fjoin ! $ move ! (1 ∷ 0 ∷ []) $ done !
+    -- what each callee is passed
+    abbrev to-parts : PartsOf .Ghost
+    to-parts = ((tt, tt, tt, (e, tt), (Ev′.lowered e ∷ [], tt)), tt)
 
-    exits :
-        (p : Put) (u : Val) → Puts h e p → Is Ev.the-row e (Ev′.lowered e ∷ []) →
-        ent 𝓤 (⋆ 𝓤 H A (‵ (P.the-row .own p (u ∷ [])) ∷ ‵ (flft κ q) ∷ ‵ (fres γ (T.the-row .coded .code h)) ∷ ‵ (fshr-bor κ (λ s. partAt T.the-row s h b o)) ∷ [])) (Post u)
-    exits p u puts is-e =
-        qed W (‵ (P.the-row .own p (u ∷ [])) ∷ ‵ (flft κ q) ∷ ‵ (fres γ (T.the-row .coded .code h)) ∷ ‵ (fshr-bor κ (λ s. partAt T.the-row s h b o)) ∷ []) ∵
-        suffices ! _ (ends-at 𝓤 H A weigh.ended stayed (weigh.clauses 𝓤 H A at-mem run) W (((κ, tt), (q, tt), tt, x, at), tt) u p (tt, (tt, tt)) (tt, (tt, tt))) $ says ! puts $
-        move ! (1 ∷ []) $ nothing ! $ move ! (1 ∷ 0 ∷ []) $ join ! $ frame ! $
-        nothing ! $ owned ! Ev.the-row (Is Ev.the-row) ((EL.makes Ev.the-type Ev′.the-plain) 𝓤 H A) e _ is-e $ fjoin ! $
-        move ! (2 ∷ 3 ∷ []) $ feqI ! (List Val) (vptr b o ∷ []) (vptr b o ∷ []) refl $ fjoin3 ! $ move ! (0 ∷ 1 ∷ []) $ fjoin ! $ frame ! $ done !
+    goes-to-parts : Is Ev.the-row e (Ev′.lowered e ∷ []) → ent 𝓤 (sem 𝓤 H A ftrue) (PartsOf .pre to-parts)
+    goes-to-parts is-e =
+        qed W (‵ ftrue ∷ []) ∵ nothing ! $ owned ! Ev.the-row (Is Ev.the-row) ((EL.makes Ev.the-type Ev′.the-plain) 𝓤 H A) e _ is-e $ fjoin ! $ move ! (1 ∷ 0 ∷ []) $ join ! $ frame ! $ done !
+
+    abbrev to-survey : ℕ → SurveyIn .Ghost
+    to-survey j = (((κ, tt), (q, tt), tt, (lent, (j, tt)), (vptr b o ∷ [], (vint w32 j ∷ [], tt))), tt)
+
+    goes-to-survey : (j : ℕ) → Is u32 j (vint w32 j ∷ []) → ent 𝓤 (⋆ 𝓤 H A ((‵ (flft κ q) ⊛ ‵ ftrue) ∷ ‵ Lent ∷ [])) (SurveyIn .pre (to-survey j))
+    goes-to-survey j is-j =
+        qed W ((‵ (flft κ q) ⊛ ‵ ftrue) ∷ ‵ Lent ∷ []) ∵ nothing ! $ owned ! u32 (Is u32) (uint-makes 𝓤 H A W w32) j _ is-j $ fjoin ! $
+        move ! (2 ∷ 0 ∷ []) $ fjoin ! $ move ! (1 ∷ 0 ∷ []) $ join ! $ frame ! $ done !
+
+    abbrev to-put : Survey → PutBy .Ghost
+    to-put v = ((tt, tt, tt, (v, (t .tokens, (e, tt))), (S′.lowered v ∷ [], (vint w32 (t .tokens) ∷ [], (Ev′.lowered e ∷ [], tt)))), tt)
+
+    goes-to-put :
+        (v : Survey) → Surveyed (boundsOf t) (t .rows) (jobOf e) v → Is S.the-row v (S′.lowered v ∷ []) → Is u32 (t .tokens) (vint w32 (t .tokens) ∷ []) → Is Ev.the-row e (Ev′.lowered e ∷ []) →
+        ent 𝓤 (sem 𝓤 H A ftrue) (PutBy .pre (to-put v))
+    goes-to-put v surveyed is-v is-tokens is-e =
+        qed W (‵ ftrue ∷ []) ∵ says ! (quiet, last-seen t (jobOf e) v surveyed) $ nothing ! $ owned ! Ev.the-row (Is Ev.the-row) ((EL.makes Ev.the-type Ev′.the-plain) 𝓤 H A) e _ is-e $ fjoin ! $
+        owned ! u32 (Is u32) (uint-makes 𝓤 H A W w32) (t .tokens) _ is-tokens $ fjoin ! $ owned ! S.the-row (Is S.the-row) ((LL.makes S.the-type S′.the-plain) 𝓤 H A) v _ is-v $ fjoin ! $
+        move ! (1 ∷ 0 ∷ []) $ done !
 
     walk :
-        (C : Calls 𝓤 H) (Λ : Loops 𝓤 H) → FmC 𝓤 H (W .laws) C → Triple 𝓤 (C #put-of) PutOf → about e .wakes ≡ false →
-        ent 𝓤 (onEntry 𝓤 H A weigh.signature (κ, tt) (q, tt) x at) (WpFn 𝓤 H C Λ code.function (vptr b o ∷ Ev′.lowered e ∷ []) Post)
-    walk C Λ fm known quiet =
-        qed W ((‵ (flft κ q) ⊛ ‵ ftrue) ∷ ‵ (owns (ShrRef (named 0) κ T.the-row ∷ Ev.the-row ∷ []) x at) ∷ []) ∵ split ! $ move ! (2 ∷ []) $ fsplit ! $ move ! (1 ∷ []) $ fsplit ! $
-        peeks ! Ev.the-row (Is Ev.the-row) (shows 𝓤 H A Ev.the-row) e (Ev′.lowered e ∷ []) (λ is-e. move ! (2 ∷ []) $ fsplit3 ! $ drop ! $ move ! (1 ∷ 4 ∷ []) $
-        -- [the shared borrow; the token; res; what the event owns; true; true]
+        (C : Calls 𝓤 H) (Λ : Loops 𝓤 H) → FmC 𝓤 H (W .laws) C → Triple 𝓤 (C #parts-of) PartsOf → Triple 𝓤 (C #survey-in) SurveyIn → Triple 𝓤 (C #put-by) PutBy →
+        ent 𝓤 (onEntry 𝓤 H A weigh.signature (κ, tt) (q, tt) (lent, (e, tt)) at) (WpFn 𝓤 H C Λ code.function (vptr b o ∷ Ev′.lowered e ∷ []) Post)
+    walk C Λ fm parts surveys puts-by =
+        qed W ((‵ (flft κ q) ⊛ ‵ ftrue) ∷ ‵ (owns (ShrRef (named 0) κ T.the-row ∷ Ev.the-row ∷ []) (lent, (e, tt)) at) ∷ []) ∵ move ! (1 ∷ []) $ fsplit ! $ move ! (1 ∷ []) $ fsplit ! $
+        peeks ! Ev.the-row (Is Ev.the-row) (shows 𝓤 H A Ev.the-row) e (Ev′.lowered e ∷ []) (λ is-e. move ! (2 ∷ []) $
+        use1 W (‵ Lent ⊛ ‵ Lent) (shr-copy 𝓤 H A W (named 0) κ T.the-row .twice lent (vptr b o ∷ [])) $ split ! $ keep ! (0 ∷ 1 ∷ 4 ∷ []) $
+        -- [the lent table; the lent table; the token]
         enter ! C Λ code.function (vptr b o ∷ Ev′.lowered e ∷ []) _ $
-        alloc1 ! (λ l₀. alloc1 ! (λ l₁. alloc1 ! (λ l₂. alloc1 ! (λ l₃. alloc0 ! $ params1 ! $
-        pass1 ! (init ! 4 refl (tt, tt)) $ pass1 ! (init ! 2 refl (EL.lawful Ev.the-type Ev′.the-laws 𝓤 H A W tt .typed e (Ev′.lowered e ∷ []) is-e .0)) $ pass0 ! $
-        move ! (8 ∷ 9 ∷ []) $
-        looks ! tt T.the-row (Is T.the-row) (shows 𝓤 H A T.the-row) (λ t. T′.lowered t ∷ []) (T′.lowers .val-is) (LL.copy T.the-type T′.the-copy 𝓤 H A W) h b o (λ q′ vs.
-        spelt ! T.the-row (Is T.the-row) (shows 𝓤 H A T.the-row) (λ t. T′.lowered t ∷ []) (T′.lowers .val-is) q′ h vs b o $
-        move ! (1 ∷ []) $ peeks ! T.the-row (Is T.the-row) (shows 𝓤 H A T.the-row) h (T′.lowered h ∷ []) (λ is-h. move ! (1 ∷ 0 ∷ []) $
-        -- [a share of the table's cell; what a table owns; the open borrow; the shared borrow; room for _3; …; _2; …; _1; …; room for _0; …; res; …]
-        assigns ! (of-opd ! (load ! (from ! (hop ! (look ! 8 refl) (stop !))) (look-raw ! 0 refl))) (from ! (stop !)) (init ! 4 refl (LL.lawful T.the-type T′.the-laws 𝓤 H A W .typed h (T′.lowered h ∷ []) is-h .0)) $
-        shuts ! tt T.the-row q′ h (T′.lowered h ∷ []) b o $
-        -- [the token; the shared borrow; _3; …; _2; …; _1; …; room for _0; …; res; …]
-        nothing ! $ use1 W (raw (PutOf .pre to)) (goes quiet is-h is-e) $
-        calls-at ! fm PutOf known to (and-then ! (load ! (from ! (stop !)) (look ! 3 refl)) (and-then ! (load ! (from ! (stop !)) (look ! 5 refl)) (no-more !))) (λ u.
-        answers ! tt P.the-row (‵ ftrue) (ensured 𝓤 H A put-of.ended (put-of.clauses 𝓤 H A at-mem run) tt (h, (e, tt)) tt) (Puts h e) u
-        (λ p. exE 𝓤 _ (λ ws. snd∗ 𝓤 (sem 𝓤 H A (lasts put-of.ended tt (h, (e, tt)) ws)) (fact 𝓤 (Puts h e p)))) (λ p puts is-p.
-        -- [what is to be put; true; the token; the shared borrow; _3; …; _2; …; _1; …; room for _0; …; res; …]
-        land ! (from ! (stop !)) (init ! 10 refl (LL.lawful P.the-type P′.the-laws 𝓤 H A W .typed p _ is-p .0)) $
-        returns ! (look ! 10 refl) $ forget ! 4 refl $ forget ! 6 refl $ forget ! 8 refl $ forget ! 10 refl $
-        move ! (10 ∷ 11 ∷ []) $ free1 ! $ move ! (8 ∷ 9 ∷ []) $ free1 ! $ move ! (6 ∷ 7 ∷ []) $ free1 ! $ move ! (4 ∷ 5 ∷ []) $ free1 ! $ free0 ! $
-        keep ! (0 ∷ 2 ∷ 4 ∷ 3 ∷ []) $ by ! (exits p u puts is-e))))))))))
+        alloc1 ! (λ l₀. alloc1 ! (λ l₁. alloc1 ! (λ l₂. alloc1 ! (λ l₃. alloc1 ! (λ l₄. alloc1 ! (λ l₅. alloc0 ! $ params1 ! $
+        pass1 ! (init ! 8 refl (tt, tt)) $ pass1 ! (init ! 6 refl (EL.lawful Ev.the-type Ev′.the-laws 𝓤 H A W tt .typed e (Ev′.lowered e ∷ []) is-e .0)) $ pass0 ! $
+        nothing ! $ use1 W (raw (PartsOf .pre to-parts)) (goes-to-parts is-e) $
+        calls-at ! fm PartsOf parts to-parts (and-then ! (load ! (from ! (stop !)) (look ! 7 refl)) (no-more !)) (λ u.
+        answers ! tt Q.the-row (‵ ftrue) (ensured 𝓤 H A parts-of.ended (parts-of.clauses 𝓤 H A at-mem run) tt (e, tt) tt) (λ p. p ≡ partsOf e) u
+        (λ p. exE 𝓤 _ (λ ws. snd∗ 𝓤 (sem 𝓤 H A (lasts parts-of.ended tt (e, tt) ws)) (fact 𝓤 (p ≡ partsOf e)))) (λ p same is-p.
+        land ! (from ! (stop !)) (init ! 6 refl (LL.lawful Q.the-type Q′.the-laws 𝓤 H A W .typed p (u ∷ []) is-p .0)) $
+        rewrite ! 6 (λ (v : Val). ‵ (fat fullShare Q′.mir l₃ 0 v)) (ap only (Q′.lowers .val-is p (u ∷ []) is-p)) refl $ drop ! $ drop ! $
+        -- [room for _5; …; room for _4; …; _3; …; _2; …; _1; …; room for _0; …; the lent table; the lent table; the token]
+        move ! (14 ∷ 12 ∷ []) $ use2 W (raw (SurveyIn .pre (to-survey (p .job)))) (goes-to-survey (p .job) (LL.owed Q.the-type Q′.the-laws p (u ∷ []) is-p .1 .0)) $
+        calls-at ! fm SurveyIn surveys (to-survey (p .job)) (and-then ! (load ! (from ! (stop !)) (look ! 9 refl)) (and-then ! (load ! (from ! (fld ! refl (stop !))) (look-in ! 5 (sub ! 1 refl (whole !)))) (no-more !))) (λ u.
+        answers ! tt S.the-row (‵ (flft κ q) ⊛ ‵ ftrue) (ensured 𝓤 H A survey-in.ended (survey-in.clauses 𝓤 H A at-mem run) (κ, tt) (lent, (p .job, tt)) tt) (Surveyed (boundsOf t) (t .rows) (p .job)) u
+        (λ v. exE 𝓤 _ (λ ws. snd∗ 𝓤 (sem 𝓤 H A (lasts survey-in.ended (κ, tt) (lent, (p .job, tt)) ws)) (fact 𝓤 (Surveyed (boundsOf t) (t .rows) (p .job) v)))) (λ v surveyed is-v.
+        let seen = subst (λ (j : ℕ). Surveyed (boundsOf t) (t .rows) j v) (ap (λ (x : Parts). x .job) same) surveyed in
+        land ! (from ! (stop !)) (init ! 4 refl (LL.lawful S.the-type S′.the-laws 𝓤 H A W .typed v (u ∷ []) is-v .0)) $
+        rewrite ! 4 (λ (w : Val). ‵ (fat fullShare S′.mir l₄ 0 w)) (ap only (S′.lowers .val-is v (u ∷ []) is-v)) refl $ drop ! $ split ! $
+        -- the tokens are read
+        move ! (14 ∷ []) $ fsplit3 ! $ drop ! $ move ! (1 ∷ 2 ∷ []) $
+        looks ! tt T.the-row (Is T.the-row) (shows 𝓤 H A T.the-row) (λ t. T′.lowered t ∷ []) (T′.lowers .val-is) (LL.copy T.the-type T′.the-copy 𝓤 H A W) t b o (λ q′ vs.
+        spelt ! T.the-row (Is T.the-row) (shows 𝓤 H A T.the-row) (λ t. T′.lowered t ∷ []) (T′.lowers .val-is) q′ t vs b o $
+        move ! (1 ∷ []) $ peeks ! T.the-row (Is T.the-row) (shows 𝓤 H A T.the-row) t (T′.lowered t ∷ []) (λ is-t. move ! (1 ∷ 0 ∷ []) $
+        let tokens = LL.owed T.the-type T′.the-laws t (T′.lowered t ∷ []) is-t .0 in
+        -- [a share of the table's cell; what a table owns; the open borrow; the shared borrow; res; true; room for _5; …; _4; …; _3; …; _2; …; _1; …; room for _0; …]
+        assigns ! (of-opd ! (load ! (from ! (hop ! (look ! 14 refl) (fld ! refl (stop !)))) (look-in ! 0 (sub ! 0 refl (whole !))))) (from ! (stop !)) (init ! 6 refl (tt, record { fits = tokens .1 })) $
+        shuts ! tt T.the-row q′ t (T′.lowered t ∷ []) b o $
+        nothing ! $ use1 W (raw (PutBy .pre (to-put v))) (goes-to-put v seen (subst (Is S.the-row v) (S′.lowers .val-is v _ is-v) is-v) tokens is-e) $
+        calls-at ! fm PutBy puts-by (to-put v) (and-then ! (load ! (from ! (stop !)) (look ! 7 refl)) (and-then ! (load ! (from ! (stop !)) (look ! 5 refl)) (and-then ! (load ! (from ! (stop !)) (look ! 11 refl)) (no-more !)))) (λ u.
+        answers ! tt P.the-row (‵ ftrue) (ensured 𝓤 H A put-by.ended (put-by.clauses 𝓤 H A at-mem run) tt (v, (t .tokens, (e, tt))) tt) (PutsBy v (t .tokens) e) u
+        (λ p. exE 𝓤 _ (λ ws. snd∗ 𝓤 (sem 𝓤 H A (lasts put-by.ended tt (v, (t .tokens, (e, tt))) ws)) (fact 𝓤 (PutsBy v (t .tokens) e p)))) (λ p puts is-p.
+        -- [what is to be put; true; the token; the shared borrow; res; true; _5; …; _4; …; _3; …; _2; …; _1; …; room for _0; …]
+        land ! (from ! (stop !)) (init ! 16 refl (LL.lawful P.the-type P′.the-laws 𝓤 H A W .typed p (u ∷ []) is-p .0)) $
+        returns ! (look ! 16 refl) $ forget ! 6 refl $ forget ! 8 refl $ forget ! 10 refl $ forget ! 12 refl $ forget ! 14 refl $ forget ! 16 refl $
+        move ! (16 ∷ 17 ∷ []) $ free1 ! $ move ! (14 ∷ 15 ∷ []) $ free1 ! $ move ! (12 ∷ 13 ∷ []) $ free1 ! $ move ! (10 ∷ 11 ∷ []) $ free1 ! $ move ! (8 ∷ 9 ∷ []) $ free1 ! $ move ! (6 ∷ 7 ∷ []) $ free1 ! $ free0 ! $
+        keep ! (2 ∷ 0 ∷ []) $ by ! (exits p u (puts t refl seen)))))))))))))))))
 
 pub weigh-spec : {M : Type 1} → statement M
 unfolding code.routine tablesOf
@@ -97,13 +147,15 @@ weigh-spec 𝓤 H 𝓜 𝓖 𝓡 =
     let W = givenOf 𝓤 H 𝓜 𝓖 in
     let 𝓣 = tablesOf 𝓤 H 𝓜 (tables 𝓤 H 𝓜 𝓡 code.env) in
     let runs = WpFn 𝓤 H (𝓣 .C) (𝓣 .Λ) code.function in
-    let known = cited 𝓤 H (PutOf 𝓤 H A W (𝓜 .mem) (𝓡 .run)) 𝓜 𝓡 code.env #put-of put-of-symbol.routine code.calls-in-place·putting·put-of (put-of-met.met 𝓤 H 𝓜 𝓖 𝓡) in
     entered 𝓤 H (tripleOf 𝓤 H A weigh.signature (weigh.spec 𝓤 H A (𝓜 .mem) (𝓡 .run)))
     (tables 𝓤 H 𝓜 𝓡 code.env .C) (tables 𝓤 H 𝓜 𝓡 code.env .Λ) #weigh code.function (code.unfolded 𝓤 H 𝓜 𝓡)
     (walk-meets 𝓤 H A weigh.ended stayed W
-    (goes-none-ref 𝓤 H A W 1 (0 ∷ []) tt (plain (λ _. T.the-row)) yes, (goes-none 𝓤 H A W 1 (λ _. Ev.the-row) yes (λ κs x f. refl), tt))
+    (goes-dropped 𝓤 H A W 1 (RefOf (0 ∷ []) tt (plain (λ _. T.the-row)) (λ _. tt)) yes (λ κs x f. refl), (goes-dropped 𝓤 H A W 1 (plain (λ _. Ev.the-row)) yes (λ κs x f. refl), tt))
     (weigh.clauses 𝓤 H A (𝓜 .mem) (𝓡 .run)) runs (WpFn-mono 𝓤 H (W .laws) 𝓣 code.function)
     (walked 𝓤 H A weigh.ended stayed (weigh.clauses 𝓤 H A (𝓜 .mem) (𝓡 .run)) runs
     (λ κs. (ptr-vals, ((λ e. Ev′.lowered e ∷ []), tt))) (λ κs. (shr-tells (named 0) (κs .0) T.the-row, (Ev′.lowers .val-is, tt)))
-    (λ κs qs bounds a g are. needs 𝓤 (about (a .1 .0) .wakes ≡ false) _
-    (walk 𝓤 H A W (𝓜 .mem) (𝓡 .run) (κs .0) (qs .0) (a .0 .ptr .0) (a .0 .ptr .1) (a .0 .name) (a .0 .now) (a .1 .0) (𝓣 .C) (𝓣 .Λ) (fmOf 𝓤 H (W .laws) 𝓣) known))))
+    (λ κs qs bounds a g are. needs 𝓤 (about (a .1 .0) .wakes ≡ false) _ (λ quiet.
+    walk 𝓤 H A W (𝓜 .mem) (𝓡 .run) (κs .0) (qs .0) (a .0 .ptr .0) (a .0 .ptr .1) (a .0 .name) (a .0 .now) (a .1 .0) quiet (𝓣 .C) (𝓣 .Λ) (fmOf 𝓤 H (W .laws) 𝓣)
+    (cited 𝓤 H (PartsOf 𝓤 H A W (𝓜 .mem) (𝓡 .run)) 𝓜 𝓡 code.env #parts-of parts-of-symbol.routine code.calls-event·parts-of (parts-of-met.met 𝓤 H 𝓜 𝓖 𝓡))
+    (cited 𝓤 H (SurveyIn 𝓤 H A W (𝓜 .mem) (𝓡 .run)) 𝓜 𝓡 code.env #survey-in survey-in-symbol.routine code.calls-in-place·looking·survey-in (survey-in-met.met 𝓤 H 𝓜 𝓖 𝓡))
+    (cited 𝓤 H (PutBy 𝓤 H A W (𝓜 .mem) (𝓡 .run)) 𝓜 𝓡 code.env #put-by put-by-symbol.routine code.calls-in-place·putting·put-by (put-by-met.met 𝓤 H 𝓜 𝓖 𝓡))))))
