@@ -3,3 +3,5 @@ pub mod Prelude
 pub mod Promises
 pub mod Putting
 pub mod PuttingLaws
+pub mod Waking
+pub mod WakingLaws

@@ -1,4 +1,9 @@
 -- Laws that only the proofs of functions use, here and where questions are asked along the line.
+mod Element
+mod Entries
 pub mod Jobs
+mod LentOn
 mod Midway
+mod Turns
+mod Walk
 pub mod Writing

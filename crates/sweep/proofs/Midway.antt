@@ -1,9 +1,12 @@
 -- The sweep on the way along the line: what has been made of the rows.
-use Rattle.sweep.specs.Prelude.{Bool, Each, List, Listed, Row, Standing, Turn, [], _+_, _<_, _∙_, _∷_, _≡_, _≢_, _≤_, _⊎_, add-one, ahead, ap, arith, behind, cond, drop, drop-cons, drop-of-length-le, each-head, each-tail, either, ext-getD, false, front, getD, getD-set-other, getD-set-same, goesOn, idle, inl, inr, keep, le-ltb, length, length-set, length-settled, line, live, live-within, lt-ltb, ltb, ltb-false, ltb-true, refl, rowOf, set, settled, subst, sym, true, turn-settled, wakesBy, woke, woken, ℕ, ℕ-discrete, ⊎-elim}
+use Rattle.sweep.specs.Prelude.{Bool, Each, List, Listed, Row, Standing, Turn, [], _+_, _<_, _∙_, _∷_, _≡_, _≢_, _≤_, _⊎_, add-one, add-zero, ahead, ap, arith, behind, bit, cond, drop, drop-cons, drop-of-length-le, each-head, each-tail, either, ext-getD, false, front, getD, getD-set-other, getD-set-same, goesOn, idle, inl, inr, keep, le-ltb, length, length-set, length-settled, line, live, live-within, lt-ltb, ltb, ltb-false, ltb-true, refl, rowOf, set, set-getD, settled, subst, sym, true, turn-settled, wakesBy, woke, woken, ℕ, ℕ-discrete, ⊎-elim}
 use Rattle.sweep.specs.Walking.{Walk, liveIn}
 use Rattle.sweep.specs.WalkingLaws.{one-place, walk-alive, walk-end, walk-later, walk-stands, walk-start, walk-step}
 use Rattle.sweep.specs.Written.{Written}
 use Rattle.sweep.specs.Leaving.{keep-within}
+use Rattle.sweep.specs.Passing.{noted, passedBy}
+use Rattle.sweep.specs.PassingLaws.{passed-gone, passed-stays, passed-wakes}
+use Rattle.sweep.specs.declared.settling.Passed.{Passed}
 use Rattle.sweep.specs.SweptLaws.{after-far, after-idle, after-near, line-now, woken-line}
 use Rattle.sweep.proofs.Writing.{Writing, writing-done, writing-passed, writing-start, writing-written}
 
@@ -235,6 +238,34 @@ module _ {up : Bool} {T : ℕ} {rows w : List Row} (written : Written up T rows 
                 midway = rw (next-is, goes) (m .0);
                 writing = writing-written (at .writing) j within here (m .1) room;
               }
+
+      module _ (token : s .ahead < T) (room : n < length out) where
+        abbrev r : Row
+        r = rowOf next j
+
+        -- what passing a job comes to, in rows and list
+        abbrev After : Passed → Type 0
+        After q = Sweeps T rows w before (noted out n j (q .woke)) (set next j (q .row)) (q .s) (n + bit (q .woke)) (p + 1)
+
+        -- who is not woken keeps its row, and is not listed
+        kept : (t : Standing) → Sweeps T rows w before out next t n (p + 1) → After (record { row = r; s = t; woke = false })
+        kept t q =
+            subst (λ (m : ℕ). Sweeps T rows w before out (set next j r) t m (p + 1)) (sym (add-zero n))
+            (subst (λ (l : List Row). Sweeps T rows w before out l t n (p + 1)) (sym (set-getD next j idle)) q)
+
+        pub sweeps-passed : After (passedBy up T s r)
+        sweeps-passed = go (live r) refl
+          where
+            awake : live r ≡ true → (b : Bool) → wakesBy up T s r ≡ b → After (passedBy up T s r)
+            awake lives true e =
+                subst After (passed-wakes up T s r lives e)
+                (sweeps-wakes lives token (behind s r) refl e room (goesOn r) refl)
+            awake lives false e =
+                subst After (passed-stays up T s r lives e) (kept (behind s r) (sweeps-stays lives token (behind s r) refl e))
+
+            go : (b : Bool) → live r ≡ b → After (passedBy up T s r)
+            go true lives = awake lives (wakesBy up T s r) refl
+            go false gone = subst After (passed-gone up T s r gone) (kept s (sweeps-gone gone))
 
     pub sweeps-end :
         (length (line rows) ≤ p) ⊎ (T ≤ s .ahead) → n ≤ length out →

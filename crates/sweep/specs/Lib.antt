@@ -1,6 +1,8 @@
 -- What is said of events that may wake others.
 pub mod Determined
 pub mod Leaving
+pub mod Passing
+pub mod PassingLaws
 pub mod Prelude
 pub mod Steady
 pub mod SteadyLaws

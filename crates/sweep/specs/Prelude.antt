@@ -5,7 +5,7 @@ pub use mathlib.Core.List.{List, [], _++_, _∷_, append-nil}
 pub use mathlib.Core.Logic.{_≢_, _⊎_, inl, inr, ⊎-elim}
 pub use mathlib.Core.Path.{_∙_, _≡_, ap, refl, subst, sym}
 pub use native.Mathlib.Decide.{ℕ-discrete}
-pub use native.Mathlib.Nat.{le-antisymm, le-of-suc-le-suc, not-suc-le-zero}
+pub use native.Mathlib.Nat.{add-zero, le-antisymm, le-of-suc-le-suc, not-suc-le-zero}
 pub use native.Mathlib.Numerals.{add-one}
 pub use native.Mathlib.Omega.{arith}
 pub use borrow.Author.Needs.{needs}
@@ -13,7 +13,7 @@ pub use borrow.Author.Tests.{eq-eqb, eqb-true, le-ltb, leb-true, lt-ltb, ltb-fal
 pub use lib.Arith.{le-zero}
 pub use lib.Dec.{eqb, leb, ltb}
 pub use lib.ListN.{drop, drop-of-length-le, getD, length, length-set, set, take, take-append-drop}
-pub use lib.Seq.{append-snoc, drop-cons, drop-drop, drop-set-lt, ext-getD, getD-set-other, getD-set-same, getD-take, length-take-le, take-suc-set}
+pub use lib.Seq.{append-snoc, drop-cons, drop-drop, drop-set-lt, ext-getD, getD-set-other, getD-set-same, getD-take, length-take-le, set-getD, take-suc-set}
 pub use Rattle.laws.specs.BoolLaws.{and-left, and-right, denied, either, implied}
 pub use Rattle.laws.specs.Bools.{bit}
 pub use Rattle.laws.specs.Counts.{all-each}

@@ -3,3 +3,4 @@ mod settling;
 
 pub use settling::Swept;
 pub use settling::settle;
+pub use settling::settle_in;
