@@ -34,14 +34,30 @@ pub record Lapses (refusal : ℕ) (c : Sweep) : Type 0 where
   pub tells : c .told ≡ answerInNumbers (refused refusal)
   pub stays : c .goes ≡ false
 
--- e is accepted on table t: its row can be written, and settling the others does what e means
-pub record Ready (n : ℕ) (t : Table) (e : Event) (c : Sweep) : Type 0 where
+-- what c writes can be written on table t, and settled into a list of n entries
+pub record Fits (n : ℕ) (t : Table) (c : Sweep) : Type 0 where
   pub long : jobs ≤ n
   pub numbers : c .bounds ≡ boundsOf t
   pub lines : Lines (t .rows) (c .line)
   pub sound : soundBy (boundsOf t) (t .rows) ≡ true
   pub acts : Acts (t .tokens) (t .rows) (c .at)
   pub onward : Onward (rowOf (t .rows) (c .at)) (c .row)
+
+-- c was settled: its row was written, and the others were looked at along the line
+pub record Settled (t : Table) (c : Sweep) (before : List ℕ) (r : EventAnswer) (left : Table) (after : List ℕ) : Type 0 where
+  pub swept : Swept
+  pub settles : Settles (t .tokens) (t .rows) (c .at) (c .row) before swept after
+  pub told : r ≡ wokeInNumbers (swept .count)
+  pub leaves : left ≡ moved t (c .time) (t .last .0) (swept .rows)
+
+-- c was carried out: nothing, or it was settled
+pub record Finishes (t : Table) (c : Sweep) (before : List ℕ) (r : EventAnswer) (left : Table) (after : List ℕ) : Type 0 where
+  pub rests : c .goes ≡ false → (r ≡ c .told) × (left ≡ t) × (after ≡ before)
+  pub goes : c .goes ≡ true → Settled t c before r left after
+
+-- e is accepted on table t: what is written fits, and settling it does what e means
+pub record Ready (n : ℕ) (t : Table) (e : Event) (c : Sweep) : Type 0 where
+  pub fits : Fits n t c
   pub does :
       (before after : List ℕ) (swept : Swept) → length before ≡ n → Settles (t .tokens) (t .rows) (c .at) (c .row) before swept after →
       InPlaceInto t e before (wokeInNumbers (swept .count)) (moved t (c .time) (t .last .0) (swept .rows)) after

@@ -1,11 +1,12 @@
 -- What an event that may wake others comes to in place is what the event means.
-use Rattle.in_place.specs.Prelude.{Acts, Bounds, Change, Event, EventAnswer, List, Next, Onward, Refusal, Settles, Survey, Surveyed, Swept, Table, _<_, _∙_, _≡_, _≤_, about, acceptance-tells, accepted-answers-into, answerInNumbers, ap, arith, boundsOf, changeOn, false, fine, jobOf, jobs, length, line-seen, long-cases, may-act, moved, numberOf, outcome, refl, refusalCases, refused, refused-answers-into, rowIn, rowOf, saw-sound, seenIn, settling-does, short-cases, sound, sound-by, subst, sym, true, true≢false, writes-onward, ℕ}
+use Rattle.in_place.specs.Prelude.{Acts, Bool, Bounds, Change, Event, EventAnswer, List, Next, Onward, Refusal, Settles, Survey, Surveyed, Swept, Table, _<_, _∙_, _≡_, _≤_, about, acceptance-tells, accepted-answers-into, answerInNumbers, ap, arith, boundsOf, changeOn, false, fine, jobOf, jobs, length, line-seen, long-cases, may-act, moved, numberOf, outcome, refl, refusalCases, refused, refused-answers-into, rowIn, rowOf, saw-sound, seenIn, settling-does, short-cases, sound, sound-by, subst, sym, true, true≢false, writes-onward, ℕ}
 use Rattle.arbiter.specs.Refusals.{cases}
 use Rattle.decision.specs.declared.answer.Answer.the-variants as Answers
 use Rattle.event.specs.declared.events.Event.the-variants.{Ask, Beat, Complete, GiveUp, Open, Release}
 use Rattle.event.specs.declared.refusal.Refusal.the-variants.{ShortList}
 use Rattle.rows.specs.declared.row.Turn.{Turn}
-use Rattle.in_place.specs.Waking.{Lapses, Sweeps}
+use Rattle.in_place.specs.Promises.{InPlaceInto}
+use Rattle.in_place.specs.Waking.{Finishes, Lapses, Sweeps}
 use Rattle.in_place.specs.declared.waking.Sweep.{Sweep}
 
 -- such an event gives no turn
@@ -60,14 +61,17 @@ module _ (n : ℕ) (t : Table) (e : Event) (loud : about e .wakes ≡ true) wher
           lapses = λ stays. absurd (true≢false stays);
           ready = λ _.
               record {
-                long = long;
-                numbers = same;
-                lines = line-seen t (jobOf e) v survey ok;
-                sound = sound-by t ∙ ok;
-                acts = subst (Acts (t .tokens) (t .rows)) (sym here) acts;
-                onward =
-                    subst (λ (k : ℕ). Onward (rowOf (t .rows) k) (x .row)) (sym here)
-                    (subst (λ (y : Change). Onward (rowIn t (jobOf e)) (y .row)) x-is (writes-onward t e loud ok acts));
+                fits =
+                    record {
+                      long = long;
+                      numbers = same;
+                      lines = line-seen t (jobOf e) v survey ok;
+                      sound = sound-by t ∙ ok;
+                      acts = subst (Acts (t .tokens) (t .rows)) (sym here) acts;
+                      onward =
+                          subst (λ (k : ℕ). Onward (rowOf (t .rows) k) (x .row)) (sym here)
+                          (subst (λ (y : Change). Onward (rowIn t (jobOf e)) (y .row)) x-is (writes-onward t e loud ok acts));
+                    };
                 does = λ before after swept len settles.
                     let r : Next = record { answer = Answers.Woke (swept .count); table = moved t (x .time) (x .last .0) (swept .rows) } in
                     let done =
@@ -88,4 +92,26 @@ module _ (n : ℕ) (t : Table) (e : Event) (loud : about e .wakes ≡ true) wher
                       lists = answered .lists;
                     };
               };
+        }
+
+-- what an event comes to, carried out, is what it means
+pub finished :
+    (t : Table) (e : Event) (c : Sweep) (before after : List ℕ) (r : EventAnswer) (left : Table) → Sweeps (length before) t e c →
+    Finishes t c before r left after → InPlaceInto t e before r left after
+finished t e c before after r left sweeps finishes = go (c .goes) refl
+  where
+    go : (b : Bool) → c .goes ≡ b → InPlaceInto t e before r left after
+    go false stays =
+        let same = finishes .rests stays in
+        let done = sweeps .lapses stays before refl in
+        record {
+          in-place = record { told = same .0 ∙ done .in-place .told; left = same .1 ∙ done .in-place .left };
+          lists = same .2 ∙ done .lists;
+        }
+    go true goes =
+        let settled = finishes .goes goes in
+        let done = sweeps .ready goes .does before after (settled .swept) refl (settled .settles) in
+        record {
+          in-place = record { told = settled .told ∙ done .in-place .told; left = settled .leaves ∙ done .in-place .left };
+          lists = done .lists;
         }

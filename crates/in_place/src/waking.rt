@@ -5,9 +5,8 @@ ghost use mathlib.Core.Path.{_≡_};
 ghost use lib.ListN.{length};
 ghost use Rattle.event.specs.Events.{about};
 ghost use Rattle.event.specs.Refusals.{numberOf};
-ghost use Rattle.arbiter.specs.Bounded.{boundsOf};
 ghost use Rattle.in_place.specs.Promises.{InPlaceInto};
-ghost use Rattle.in_place.specs.Waking.{Lapses, Sweeps, SweepsBy, wokeInNumbers};
+ghost use Rattle.in_place.specs.Waking.{Finishes, Fits, Lapses, Sweeps, SweepsBy, wokeInNumbers};
 use crate::looking::bounds_in;
 use crate::looking::survey_in;
 use arbiter::Table;
@@ -102,12 +101,11 @@ fn weigh_waking(table: &Table, event: Event, lent: usize) -> Sweep
     sweep_by(s, bounds, event, lent)
 }
 
-// An event that may wake others, on a table that is lent.
-pub fn carry_waking(table: &mut Table, event: Event, woken: &mut [u8]) -> EventAnswer
-    requires { ⌜ about event .wakes ≡ true ⌝ }
-    ensures { λ r. ⌜ InPlaceInto (now (table .entry)) event (now (woken .entry)) r (now (table .exit)) (now (woken .exit)) ⌝ }
+// Carries that out: nothing, or the row is written and the others are settled along the line.
+fn finish(table: &mut Table, sweep: Sweep, woken: &mut [u8]) -> EventAnswer
+    requires { ⌜ (sweep .goes ≡ true → Fits (length (now woken)) (now table) sweep) ⌝ }
+    ensures { λ r. ⌜ Finishes (now (table .entry)) sweep (now (woken .entry)) r (now (table .exit)) (now (woken .exit)) ⌝ }
 {
-    let sweep = weigh_waking(table, event, woken.len());
     if !sweep.goes {
         return sweep.told;
     }
@@ -121,4 +119,13 @@ pub fn carry_waking(table: &mut Table, event: Event, woken: &mut [u8]) -> EventA
         woken,
     );
     woke(count)
+}
+
+// An event that may wake others, on a table that is lent.
+pub fn carry_waking(table: &mut Table, event: Event, woken: &mut [u8]) -> EventAnswer
+    requires { ⌜ about event .wakes ≡ true ⌝ }
+    ensures { λ r. ⌜ InPlaceInto (now (table .entry)) event (now (woken .entry)) r (now (table .exit)) (now (woken .exit)) ⌝ }
+{
+    let sweep = weigh_waking(table, event, woken.len());
+    finish(table, sweep, woken)
 }
