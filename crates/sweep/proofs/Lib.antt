@@ -5,5 +5,5 @@ pub mod Jobs
 mod LentOn
 mod Midway
 mod Turns
-mod Walk
+pub mod Walk
 pub mod Writing
