@@ -1,4 +1,5 @@
 -- What the proofs of this crate share.
+pub mod Bounds
 pub mod Element
 pub mod Rows
 pub mod Walk

@@ -25,13 +25,6 @@ pub fn bounds_in(table: &Table) -> Bounds
 pub fn survey_in(table: &Table, job: u32) -> Survey
     ensures { λ v. ⌜ Surveyed (boundsOf (now (table .entry))) (now (table .entry) .rows) job v ⌝ }
 {
-    let last = table.last;
-    let b = Bounds {
-        tokens: table.tokens,
-        resources: table.resources,
-        limit: table.limit,
-        time: table.time,
-        last,
-    };
+    let b = bounds_in(table);
     survey_of(&table.rows, b, job)
 }

@@ -7,6 +7,7 @@ ghost use Rattle.event.specs.Limits.{jobs};
 ghost use Rattle.event.specs.Refusals.{numberOf};
 ghost use Rattle.in_place.specs.Promises.{InPlace};
 ghost use Rattle.in_place.specs.Putting.{Puts, PutsBy, Rests, Writable, written};
+use crate::looking::bounds_in;
 use crate::looking::survey_in;
 use arbiter::Table;
 use arbiter::found;
@@ -79,7 +80,8 @@ fn weigh(table: &Table, event: Event) -> Put
 {
     let parts = parts_of(event);
     let s = survey_in(table, parts.job);
-    put_by(s, table.tokens, event)
+    let b = bounds_in(table);
+    put_by(s, b.tokens, event)
 }
 
 // Writes that.

@@ -1,5 +1,6 @@
--- A walk of the code by hand: the table is looked into, its numbers are read, and its rows are lent to `survey_of` where they lie. Of `survey_of` the contract alone is used.
-use Rattle.in_place.proofs.Walk.{Atoms, Calls, Contract, FmC, Fun, GName, Given, Heap, Is, Lft, List, Loops, Memory, RefOf, RefT, Routine, SProp, Share, ShrRef, Stays, Triple, URA, Val, WpFn, WpFn-mono, [], _$_, _+_, _∵_, _∷_, _⊛_, addr, agg, all, alloc0, alloc1, and-then, answers, assigns, await, by, calls-at, cellAt, cited, done, drop, emp, ends-at, ensured, ent, enter, entered, exE, fact, fat, fjoin, flent, fld, flft, fmOf, forget, frame, free0, free1, from, fst∗, fsplit, fsplit3, ftrue, fullShare, givenOf, goes-dropped, hop, init, join, keep, land, lasts, later, lends-shr, lent-back, lft-end, lft-new, load, look, look-in, looks, move, named, no-more, nothing, of-opd, onEntry, owned, owns, params1, partAt, pass0, pass1, peeks, pick, plain, ptr-vals, qed, raw, refl, returns, says, sem, sep, shows, shr-tells, shuts, snd∗, some, spelt, split, stay-dropped, stop, sub, suffices, tables, tablesOf, tripleOf, u32, uint-makes, uint-tells, uint-vals, use1, use2, via, vint, vptr, w32, walk-meets, walkOf, walked, whole, yes, ‵, ℕ, ⋆, ! }
+-- A walk of the code by hand: the lent table goes to `bounds_in`, and its rows are lent to `survey_of` where they lie. Of both the contract alone is used.
+use Rattle.in_place.proofs.Walk.{Atoms, Calls, Contract, FmC, Fun, GName, Given, Heap, Is, Lft, List, Loops, Memory, RefOf, RefT, Routine, SProp, Share, ShrRef, Stays, Triple, URA, Val, WpFn, WpFn-mono, [], _$_, _+_, _∵_, _∷_, _⊛_, addr, all, alloc0, alloc1, and-then, answers, assigns, await, by, calls-at, cellAt, cited, done, drop, emp, ends-at, ensured, ent, enter, entered, exE, fact, fat, fjoin, fld, flent, flft, fmOf, forget, frame, free0, free1, from, fsplit, fsplit3, fst∗, ftrue, fullShare, givenOf, goes-dropped, hop, init, join, keep, land, lasts, later, lends-shr, lent-back, lft-end, lft-new, load, look, looks, move, named, no-more, nothing, onEntry, owned, owns, params1, partAt, pass0, pass1, peeks, pick, plain, ptr-vals, qed, raw, refl, returns, says, sem, shows, shr-copy, shr-tells, shuts, snd∗, some, spelt, split, stay-dropped, stop, suffices, tables, tablesOf, tripleOf, u32, uint-makes, uint-tells, uint-vals, use1, use2, via, vint, vptr, w32, walk-meets, walkOf, walked, yes, ‵, ℕ, ⋆, ! }
+use base.Fml.{Fml}
 use denote.Struct.Laws as LL
 use Rattle.rows.specs.declared.row.Row.{Row}
 use Rattle.soundness.proofs.Bounds as B
@@ -16,6 +17,7 @@ use Rattle.arbiter.specs.Bounded.{boundsOf}
 use Rattle.arbiter.specs.declared.table.Table.{Table}
 use Rattle.arbiter.proofs.table.Table as T
 use Rattle.arbiter.proofs.table.Table.Laws as T′
+use Rattle.in_place.proofs.Bounds.{#bounds-in, BoundsIn, asks-bounds, calls-bounds}
 use Rattle.in_place.proofs.Rows.{Back, Rows, rows-back, rows-of, rows-out}
 use Rattle.in_place.proofs.looking.survey_in as survey-in
 use Rattle.in_place.proofs.looking.survey_in.Code as code
@@ -31,8 +33,14 @@ module _ {M : Type 1} (𝓤 : URA M) (H : Heap 𝓤) (A : Atoms 𝓤) (W : Given
   SurveyOf = tripleOf 𝓤 H A survey-of.signature (survey-of.spec 𝓤 H A at-mem run)
 
   module _ (κ : Lft) (q : Share) (b o : ℕ) (γ : GName) (t : Table) (job : ℕ) (is-job : Is u32 job (vint w32 job ∷ [])) where
+    abbrev table : RefT Table
+    table = record { ptr = (b, o); name = γ; now = t }
+
+    abbrev Lent : Fml
+    Lent = ShrRef (named 0) κ T.the-row .own table (vptr b o ∷ [])
+
     abbrev x : RefT Table × (ℕ × Unit {0})
-    x = (record { ptr = (b, o); name = γ; now = t }, (job, tt))
+    x = (table, (job, tt))
 
     abbrev at : List Val × (List Val × Unit {0})
     at = (vptr b o ∷ [], (vint w32 job ∷ [], tt))
@@ -63,56 +71,46 @@ module _ {M : Type 1} (𝓤 : URA M) (H : Heap 𝓤) (A : Atoms 𝓤) (W : Given
           nothing ! $ owned ! u32 (Is u32) (uint-makes 𝓤 H A W w32) job _ is-job $ fjoin ! $ owned ! B.the-row (Is B.the-row) (LL.makes B.the-type B′.the-plain 𝓤 H A) (boundsOf t) _ is-b $ fjoin ! $
           move ! (2 ∷ 0 ∷ []) $ fjoin ! $ nothing ! $ move ! (2 ∷ 0 ∷ []) $ join ! $ join ! $ frame ! $ done !
 
-    -- the numbers of a table are numbers
-    bounds-are : Is T.the-row t (T′.lowered t ∷ []) → Is B.the-row (boundsOf t) (B′.lowered (boundsOf t) ∷ [])
-    bounds-are is =
-        let held = LL.owed T.the-type T′.the-laws t (T′.lowered t ∷ []) is in
-        LL.owes B.the-type B′.the-laws (boundsOf t) (held .0, (held .1 .0, (held .1 .1 .0, (held .1 .1 .1 .0, (held .1 .1 .1 .1 .0, tt)))))
-
     walk :
-        (C : Calls 𝓤 H) (Λ : Loops 𝓤 H) → FmC 𝓤 H (W .laws) C → Triple 𝓤 (C #survey-of) SurveyOf →
+        (C : Calls 𝓤 H) (Λ : Loops 𝓤 H) → FmC 𝓤 H (W .laws) C → Triple 𝓤 (C #bounds-in) (BoundsIn 𝓤 H A at-mem run) → Triple 𝓤 (C #survey-of) SurveyOf →
         ent 𝓤 (onEntry 𝓤 H A survey-in.signature (κ, tt) (q, tt) x at) (WpFn 𝓤 H C Λ code.function (vptr b o ∷ vint w32 job ∷ []) Post)
-    walk C Λ fm known =
-        qed W ((‵ (flft κ q) ⊛ ‵ ftrue) ∷ ‵ (owns (ShrRef (named 0) κ T.the-row ∷ u32 ∷ []) x at) ∷ []) ∵ split ! $ move ! (2 ∷ []) $ fsplit ! $ fsplit3 ! $ drop ! $ move ! (1 ∷ 3 ∷ []) $
-        -- [the shared borrow; the token; …]
+    walk C Λ fm bounds surveys =
+        qed W ((‵ (flft κ q) ⊛ ‵ ftrue) ∷ ‵ (owns (ShrRef (named 0) κ T.the-row ∷ u32 ∷ []) x at) ∷ []) ∵ move ! (1 ∷ []) $ fsplit ! $
+        use1 W (‵ Lent ⊛ ‵ Lent) (shr-copy 𝓤 H A W (named 0) κ T.the-row .twice table (vptr b o ∷ [])) $ split ! $ keep ! (0 ∷ 1 ∷ 3 ∷ []) $
+        -- [the lent table; the lent table; the token]
         enter ! C Λ code.function (vptr b o ∷ vint w32 job ∷ []) _ $
-        alloc1 ! (λ l₀. alloc1 ! (λ l₁. alloc1 ! (λ l₂. alloc1 ! (λ l₃. alloc1 ! (λ l₄. alloc1 ! (λ l₅. alloc1 ! (λ l₆. alloc1 ! (λ l₇. alloc1 ! (λ l₈. alloc1 ! (λ l₉. alloc0 ! $ params1 ! $
-        pass1 ! (init ! 16 refl (tt, tt)) $ pass1 ! (init ! 14 refl (tt, record { fits = is-job .1 })) $ pass0 ! $ move ! (20 ∷ 21 ∷ []) $
+        alloc1 ! (λ l₀. alloc1 ! (λ l₁. alloc1 ! (λ l₂. alloc1 ! (λ l₃. alloc1 ! (λ l₄. alloc0 ! $ params1 ! $
+        pass1 ! (init ! 6 refl (tt, tt)) $ pass1 ! (init ! 4 refl (tt, record { fits = is-job .1 })) $ pass0 ! $
+        -- [room for _4; …; room for _3; …; _2; …; _1; …; room for _0; …; the lent table; the lent table; the token]
+        move ! (12 ∷ 10 ∷ []) $ asks-bounds 𝓤 H A at-mem run W κ q table ! fm bounds (and-then ! (load ! (from ! (stop !)) (look ! 7 refl)) (no-more !)) (λ is-b.
+        land ! (from ! (stop !)) (init ! 3 refl (LL.lawful B.the-type B′.the-laws 𝓤 H A W .typed (boundsOf t) (B′.lowered (boundsOf t) ∷ []) is-b .0)) $
+        split ! $ move ! (12 ∷ []) $ fsplit3 ! $ drop ! $ move ! (1 ∷ 2 ∷ []) $
         looks ! tt T.the-row (Is T.the-row) (shows 𝓤 H A T.the-row) (λ t. T′.lowered t ∷ []) (T′.lowers .val-is) (LL.copy T.the-type T′.the-copy 𝓤 H A W) t b o (λ q′ vs.
         spelt ! T.the-row (Is T.the-row) (shows 𝓤 H A T.the-row) (λ t. T′.lowered t ∷ []) (T′.lowers .val-is) q′ t vs b o $
         use1 W (‵ (fat q′ T′.mir b o (T′.lowered t))) (W .laws .raw-at q′ T′.mir b o (T′.lowered t)) $
         move ! (1 ∷ []) $ peeks ! T.the-row (Is T.the-row) (shows 𝓤 H A T.the-row) t (T′.lowered t ∷ []) (λ is-t. move ! (1 ∷ 0 ∷ []) $
-        let wt = LL.lawful T.the-type T′.the-laws 𝓤 H A W .typed t (T′.lowered t ∷ []) is-t .0 in
-        -- [a share of the table's cell; what a table owns; the open borrow; the shared borrow; room for _9; …; _8; …; _7; …; _6; …; _5; …; _4; …; _3; …; _2; …; _1; …; room for _0; …]
-        assigns ! (of-opd ! (load ! (from ! (hop ! (look ! 20 refl) (fld ! refl (stop !)))) (look-in ! 0 (sub ! 4 refl (whole !))))) (from ! (stop !)) (init ! 16 refl (tt, wt .1 .1 .1 .1 .1 .0)) $
-        assigns ! (of-opd ! (load ! (from ! (hop ! (look ! 20 refl) (fld ! refl (stop !)))) (look-in ! 0 (sub ! 0 refl (whole !))))) (from ! (stop !)) (init ! 12 refl (tt, wt .1 .0)) $
-        assigns ! (of-opd ! (load ! (from ! (hop ! (look ! 20 refl) (fld ! refl (stop !)))) (look-in ! 0 (sub ! 1 refl (whole !))))) (from ! (stop !)) (init ! 10 refl (tt, wt .1 .1 .0)) $
-        assigns ! (of-opd ! (load ! (from ! (hop ! (look ! 20 refl) (fld ! refl (stop !)))) (look-in ! 0 (sub ! 2 refl (whole !))))) (from ! (stop !)) (init ! 8 refl (tt, wt .1 .1 .1 .0)) $
-        assigns ! (of-opd ! (load ! (from ! (hop ! (look ! 20 refl) (fld ! refl (stop !)))) (look-in ! 0 (sub ! 3 refl (whole !))))) (from ! (stop !)) (init ! 6 refl (tt, wt .1 .1 .1 .1 .0)) $
-        assigns ! (agg ! (and-then ! (load ! (from ! (stop !)) (look ! 12 refl)) (and-then ! (load ! (from ! (stop !)) (look ! 10 refl)) (and-then ! (load ! (from ! (stop !)) (look ! 8 refl)) (and-then ! (load ! (from ! (stop !)) (look ! 6 refl)) (and-then ! (load ! (from ! (stop !)) (look ! 16 refl)) (no-more !)))))))
-        (from ! (stop !)) (init ! 14 refl (LL.lawful B.the-type B′.the-laws 𝓤 H A W .typed (boundsOf t) (B′.lowered (boundsOf t) ∷ []) (bounds-are is-t) .0)) $
-        assigns ! (addr ! (from ! (hop ! (look ! 20 refl) (fld ! refl (stop !))))) (from ! (stop !)) (init ! 4 refl (tt, tt)) $
+        -- [a share of the table's cell; what a table owns; the open borrow; the shared borrow; res; true; room for _4; …; _3; …; _2; …; _1; …; room for _0; …]
+        assigns ! (addr ! (from ! (hop ! (look ! 12 refl) (fld ! refl (stop !))))) (from ! (stop !)) (init ! 6 refl (tt, tt)) $
         -- the rows are lent where they lie
         use1 W (‵ (partAt Rows q′ (t .rows) b (o + 32)) ⊛ raw (all 𝓤 (Back 𝓤 H A W q′ b o t))) (rows-out 𝓤 H A W q′ b o t (rows-of t is-t)) $ split ! $ lft-new ! tt (λ α. move ! (1 ∷ []) $
         use1 W (later (some (λ (δ : GName). ‵ (ShrRef (named 0) (α ∷ []) Rows .own (lent α δ) (vptr b (o + 32) ∷ [])) ⊛ ‵ (flent (α ∷ []) (partAt Rows q′ (t .rows) b (o + 32))))))
         (lends-shr 𝓤 H A W Rows (named 0) (α ∷ []) q′ (t .rows) b (o + 32)) $ await ! tt $ pick ! (λ δ. split ! $ move ! (2 ∷ 0 ∷ []) $
-        use2 W (raw (SurveyOf .pre (to α δ))) (goes α δ (bounds-are is-t)) $
-        -- [what `survey_of` asks; the lender's part; the way back; what a table owns; the open borrow; the shared borrow; _9; …; _8; …; _7; …; _6; …; _5; …; _4; …; _3; …; _2; …; _1; …; room for _0; …]
-        calls-at ! fm SurveyOf known (to α δ) (and-then ! (load ! (from ! (stop !)) (look ! 6 refl)) (and-then ! (load ! (from ! (stop !)) (look ! 16 refl)) (and-then ! (load ! (from ! (stop !)) (look ! 20 refl)) (no-more !)))) (λ u.
+        use2 W (raw (SurveyOf .pre (to α δ))) (goes α δ is-b) $
+        -- [what `survey_of` asks; the lender's part; the way back; what a table owns; the open borrow; the shared borrow; res; true; _4; …; _3; …; _2; …; _1; …; room for _0; …]
+        calls-at ! fm SurveyOf surveys (to α δ) (and-then ! (load ! (from ! (stop !)) (look ! 8 refl)) (and-then ! (load ! (from ! (stop !)) (look ! 10 refl)) (and-then ! (load ! (from ! (stop !)) (look ! 12 refl)) (no-more !)))) (λ u.
         answers ! tt S.the-row (‵ (flft (α ∷ []) fullShare) ⊛ ‵ ftrue) (ensured 𝓤 H A survey-of.ended (survey-of.clauses 𝓤 H A at-mem run) (α ∷ [], tt) (lent α δ, (boundsOf t, (job, tt))) tt) (Surveyed (boundsOf t) (t .rows) job) u
         (λ v. exE 𝓤 _ (λ ws. snd∗ 𝓤 (sem 𝓤 H A (lasts survey-of.ended (α ∷ [], tt) (lent α δ, (boundsOf t, (job, tt))) ws)) (fact 𝓤 (Surveyed (boundsOf t) (t .rows) job v)))) (λ v surveyed is-v.
-        -- [what was seen; the token of the lifetime; the lender's part; the way back; what a table owns; the open borrow; the shared borrow; _9; …; … ; room for _0; …]
-        land ! (from ! (stop !)) (init ! 25 refl (LL.lawful S.the-type S′.the-laws 𝓤 H A W .typed v (u ∷ []) is-v .0)) $
+        -- [what was seen; the token of the lifetime; the lender's part; the way back; what a table owns; the open borrow; the shared borrow; res; true; _4; …; … ; room for _0; …]
+        land ! (from ! (stop !)) (init ! 17 refl (LL.lawful S.the-type S′.the-laws 𝓤 H A W .typed v (u ∷ []) is-v .0)) $
         move ! (1 ∷ []) $ split ! $ lft-end ! tt $ move ! (0 ∷ 3 ∷ []) $ lent-back ! tt $
         -- [the rows; true; what was seen; the way back; what a table owns; the open borrow; …]
         move ! (0 ∷ 3 ∷ []) $ use2 W (‵ (fat q′ T′.mir b o (T′.lowered t))) (rows-back 𝓤 H A W q′ b o t (t .rows)) $
         use1 W (‵ (cellAt q′ (T.the-row .mir) (T′.lowered t ∷ []) b o)) (W .laws .at-raw q′ T′.mir b o (T′.lowered t)) $
         move ! (0 ∷ 3 ∷ 4 ∷ []) $ shuts ! tt T.the-row q′ t (T′.lowered t ∷ []) b o $
-        -- [the token; true; what was seen; the shared borrow; _9; …; _8; …; _7; …; _6; …; _5; …; _4; …; _3; …; _2; …; _1; …; _0; …]
-        returns ! (look ! 22 refl) $ forget ! 4 refl $ forget ! 6 refl $ forget ! 8 refl $ forget ! 10 refl $ forget ! 12 refl $ forget ! 14 refl $ forget ! 16 refl $ forget ! 18 refl $ forget ! 20 refl $ forget ! 22 refl $
-        move ! (22 ∷ 23 ∷ []) $ free1 ! $ move ! (20 ∷ 21 ∷ []) $ free1 ! $ move ! (18 ∷ 19 ∷ []) $ free1 ! $ move ! (16 ∷ 17 ∷ []) $ free1 ! $ move ! (14 ∷ 15 ∷ []) $ free1 ! $
-        move ! (12 ∷ 13 ∷ []) $ free1 ! $ move ! (10 ∷ 11 ∷ []) $ free1 ! $ move ! (8 ∷ 9 ∷ []) $ free1 ! $ move ! (6 ∷ 7 ∷ []) $ free1 ! $ move ! (4 ∷ 5 ∷ []) $ free1 ! $ free0 ! $
-        keep ! (0 ∷ 2 ∷ []) $ by ! (exits v u surveyed)))))))))))))))))
+        -- [the token; true; what was seen; the shared borrow; res; true; _4; …; _3; …; _2; …; _1; …; _0; …]
+        returns ! (look ! 14 refl) $ forget ! 6 refl $ forget ! 8 refl $ forget ! 10 refl $ forget ! 12 refl $ forget ! 14 refl $
+        move ! (14 ∷ 15 ∷ []) $ free1 ! $ move ! (12 ∷ 13 ∷ []) $ free1 ! $ move ! (10 ∷ 11 ∷ []) $ free1 ! $ move ! (8 ∷ 9 ∷ []) $ free1 ! $ move ! (6 ∷ 7 ∷ []) $ free1 ! $ free0 ! $
+        keep ! (0 ∷ 2 ∷ []) $ by ! (exits v u surveyed)))))))))))))
 
 pub survey-in-spec : {M : Type 1} → statement M
 unfolding code.routine tablesOf
@@ -130,4 +128,5 @@ survey-in-spec 𝓤 H 𝓜 𝓖 𝓡 =
     (walked 𝓤 H A survey-in.ended stayed (survey-in.clauses 𝓤 H A (𝓜 .mem) (𝓡 .run)) runs
     (λ κs. (ptr-vals, (uint-vals w32, tt))) (λ κs. (shr-tells (named 0) (κs .0) T.the-row, (uint-tells w32, tt)))
     (λ κs qs bounds a g are. via 𝓤 _ (fst∗ 𝓤 _ (emp 𝓤))
-    (walk 𝓤 H A W (𝓜 .mem) (𝓡 .run) (κs .0) (qs .0) (a .0 .ptr .0) (a .0 .ptr .1) (a .0 .name) (a .0 .now) (a .1 .0) (are .1 .0) (𝓣 .C) (𝓣 .Λ) (fmOf 𝓤 H (W .laws) 𝓣) known))))
+    (walk 𝓤 H A W (𝓜 .mem) (𝓡 .run) (κs .0) (qs .0) (a .0 .ptr .0) (a .0 .ptr .1) (a .0 .name) (a .0 .now) (a .1 .0) (are .1 .0) (𝓣 .C) (𝓣 .Λ) (fmOf 𝓤 H (W .laws) 𝓣)
+    (calls-bounds 𝓤 H 𝓜 𝓖 𝓡 code.env code.calls-in-place·looking·bounds-in) known))))

@@ -1,5 +1,5 @@
--- A walk of the code by hand: the lent table goes to `survey_in`, its tokens are read, and `put_by` is called on what was seen. Of all that is called the contract alone is used.
-use Rattle.in_place.proofs.Walk.{Atoms, Calls, Contract, FmC, Fun, GName, Given, Heap, Is, Lft, List, Loops, Memory, RefOf, RefT, Routine, SProp, Share, ShrRef, Stays, Triple, URA, Val, WpFn, WpFn-mono, [], _$_, _∙_, _∵_, _∷_, _≡_, _⊛_, alloc0, alloc1, and-then, answers, ap, assigns, by, calls-at, cited, done, drop, ends-at, ensured, ent, enter, entered, exE, fact, fat, fjoin, fld, flft, fmOf, forget, frame, free0, free1, from, fsplit, fsplit3, ftrue, fullShare, givenOf, goes-dropped, hop, init, join, keep, land, lasts, load, look, look-in, looks, move, named, needs, no-more, nothing, of-opd, onEntry, only, owned, owns, params1, pass0, pass1, peeks, plain, ptr-vals, qed, raw, refl, returns, rewrite, says, sem, shows, shr-copy, shr-tells, shuts, snd∗, spelt, split, stay-dropped, stop, sub, subst, suffices, sym, tables, tablesOf, tripleOf, u32, uint-makes, use1, use2, vint, vptr, w32, walk-meets, walkOf, walked, whole, yes, ‵, ℕ, ⋆, ! }
+-- A walk of the code by hand: the lent table goes to `survey_in` and to `bounds_in`, and `put_by` is called on what was seen. Of all that is called the contract alone is used.
+use Rattle.in_place.proofs.Walk.{Atoms, Calls, Contract, FmC, Fun, GName, Given, Heap, Is, Lft, List, Loops, Memory, RefOf, RefT, Routine, SProp, Share, ShrRef, Stays, Triple, URA, Val, WpFn, WpFn-mono, [], _$_, _∵_, _∷_, _≡_, _⊛_, alloc0, alloc1, and-then, answers, ap, by, calls-at, cited, done, drop, ends-at, ensured, ent, enter, entered, exE, fact, fat, fjoin, fld, flft, fmOf, forget, frame, free0, free1, from, fsplit, ftrue, fullShare, givenOf, goes-dropped, init, join, keep, land, lasts, load, look, look-in, move, named, needs, no-more, nothing, onEntry, only, owned, owns, params1, pass0, pass1, peeks, plain, ptr-vals, qed, raw, refl, returns, rewrite, says, sem, shows, shr-copy, shr-tells, snd∗, split, stay-dropped, stop, sub, subst, suffices, tables, tablesOf, tripleOf, u32, uint-makes, use1, use2, vint, vptr, w32, walk-meets, walkOf, walked, whole, yes, ‵, ℕ, ⋆, ! }
 use base.Fml.{Fml}
 use denote.Enum.Laws as EL
 use denote.Struct.Laws as LL
@@ -14,13 +14,15 @@ use Rattle.event.proofs.parts_of as parts-of
 use Rattle.event.proofs.parts_of.Met as parts-of-met
 use Rattle.event.proofs.parts_of.Symbol as parts-of-symbol
 use Rattle.event.proofs.parts_of.Symbol.{name as #parts-of}
+use Rattle.soundness.proofs.Bounds as B
+use Rattle.soundness.proofs.Bounds.Laws as B′
 use Rattle.pass.specs.declared.known.Survey.{Survey}
 use Rattle.pass.proofs.known.Survey as S
 use Rattle.pass.proofs.known.Survey.Laws as S′
 use Rattle.arbiter.proofs.table.Table as T
-use Rattle.arbiter.proofs.table.Table.Laws as T′
 use Rattle.in_place.specs.Putting.{Puts, PutsBy}
 use Rattle.in_place.specs.declared.putting.Put.{Put}
+use Rattle.in_place.proofs.Bounds.{#bounds-in, BoundsIn, asks-bounds, calls-bounds}
 use Rattle.in_place.proofs.looking.survey_in as survey-in
 use Rattle.in_place.proofs.looking.survey_in.Met as survey-in-met
 use Rattle.in_place.proofs.looking.survey_in.Symbol as survey-in-symbol
@@ -63,11 +65,11 @@ module _ {M : Type 1} (𝓤 : URA M) (H : Heap 𝓤) (A : Atoms 𝓤) (W : Given
     abbrev Post : Val → SProp 𝓤
     Post = walkOf 𝓤 H A weigh.ended stayed (weigh.clauses 𝓤 H A at-mem run) .post (((κ, tt), (q, tt), tt, (lent, (e, tt)), at), tt)
 
-    exits : (p : Put) (u : Val) → Puts t e p → ent 𝓤 (⋆ 𝓤 H A (‵ (flft κ q) ∷ ‵ (P.the-row .own p (u ∷ [])) ∷ [])) (Post u)
+    exits : (p : Put) (u : Val) → Puts t e p → ent 𝓤 (⋆ 𝓤 H A ((‵ (flft κ q) ⊛ ‵ ftrue) ∷ ‵ (P.the-row .own p (u ∷ [])) ∷ [])) (Post u)
     exits p u puts =
-        qed W (‵ (flft κ q) ∷ ‵ (P.the-row .own p (u ∷ [])) ∷ []) ∵
+        qed W ((‵ (flft κ q) ⊛ ‵ ftrue) ∷ ‵ (P.the-row .own p (u ∷ [])) ∷ []) ∵
         suffices ! _ (ends-at 𝓤 H A weigh.ended stayed (weigh.clauses 𝓤 H A at-mem run) W (((κ, tt), (q, tt), tt, (lent, (e, tt)), at), tt) u p (tt, (tt, tt)) (tt, (tt, tt))) $
-        says ! puts $ nothing ! $ move ! (1 ∷ 0 ∷ []) $ join ! $ frame ! $ nothing ! $ nothing ! $ fjoin ! $ nothing ! $ fjoin ! $ frame ! $ done !
+        says ! puts $ frame ! $ nothing ! $ nothing ! $ fjoin ! $ nothing ! $ fjoin ! $ frame ! $ done !
 
     -- what each callee is passed
     abbrev to-parts : PartsOf .Ghost
@@ -97,9 +99,9 @@ module _ {M : Type 1} (𝓤 : URA M) (H : Heap 𝓤) (A : Atoms 𝓤) (W : Given
         move ! (1 ∷ 0 ∷ []) $ done !
 
     walk :
-        (C : Calls 𝓤 H) (Λ : Loops 𝓤 H) → FmC 𝓤 H (W .laws) C → Triple 𝓤 (C #parts-of) PartsOf → Triple 𝓤 (C #survey-in) SurveyIn → Triple 𝓤 (C #put-by) PutBy →
+        (C : Calls 𝓤 H) (Λ : Loops 𝓤 H) → FmC 𝓤 H (W .laws) C → Triple 𝓤 (C #parts-of) PartsOf → Triple 𝓤 (C #survey-in) SurveyIn → Triple 𝓤 (C #bounds-in) (BoundsIn 𝓤 H A at-mem run) → Triple 𝓤 (C #put-by) PutBy →
         ent 𝓤 (onEntry 𝓤 H A weigh.signature (κ, tt) (q, tt) (lent, (e, tt)) at) (WpFn 𝓤 H C Λ code.function (vptr b o ∷ Ev′.lowered e ∷ []) Post)
-    walk C Λ fm parts surveys puts-by =
+    walk C Λ fm parts surveys bounds puts-by =
         qed W ((‵ (flft κ q) ⊛ ‵ ftrue) ∷ ‵ (owns (ShrRef (named 0) κ T.the-row ∷ Ev.the-row ∷ []) (lent, (e, tt)) at) ∷ []) ∵ move ! (1 ∷ []) $ fsplit ! $ move ! (1 ∷ []) $ fsplit ! $
         peeks ! Ev.the-row (Is Ev.the-row) (shows 𝓤 H A Ev.the-row) e (Ev′.lowered e ∷ []) (λ is-e. move ! (2 ∷ []) $
         use1 W (‵ Lent ⊛ ‵ Lent) (shr-copy 𝓤 H A W (named 0) κ T.the-row .twice lent (vptr b o ∷ [])) $ split ! $ keep ! (0 ∷ 1 ∷ 4 ∷ []) $
@@ -120,25 +122,21 @@ module _ {M : Type 1} (𝓤 : URA M) (H : Heap 𝓤) (A : Atoms 𝓤) (W : Given
         (λ v. exE 𝓤 _ (λ ws. snd∗ 𝓤 (sem 𝓤 H A (lasts survey-in.ended (κ, tt) (lent, (p .job, tt)) ws)) (fact 𝓤 (Surveyed (boundsOf t) (t .rows) (p .job) v)))) (λ v surveyed is-v.
         let seen = subst (λ (j : ℕ). Surveyed (boundsOf t) (t .rows) j v) (ap (λ (x : Parts). x .job) same) surveyed in
         land ! (from ! (stop !)) (init ! 4 refl (LL.lawful S.the-type S′.the-laws 𝓤 H A W .typed v (u ∷ []) is-v .0)) $
-        rewrite ! 4 (λ (w : Val). ‵ (fat fullShare S′.mir l₄ 0 w)) (ap only (S′.lowers .val-is v (u ∷ []) is-v)) refl $ drop ! $ split ! $
-        -- the tokens are read
-        move ! (14 ∷ []) $ fsplit3 ! $ drop ! $ move ! (1 ∷ 2 ∷ []) $
-        looks ! tt T.the-row (Is T.the-row) (shows 𝓤 H A T.the-row) (λ t. T′.lowered t ∷ []) (T′.lowers .val-is) (LL.copy T.the-type T′.the-copy 𝓤 H A W) t b o (λ q′ vs.
-        spelt ! T.the-row (Is T.the-row) (shows 𝓤 H A T.the-row) (λ t. T′.lowered t ∷ []) (T′.lowers .val-is) q′ t vs b o $
-        move ! (1 ∷ []) $ peeks ! T.the-row (Is T.the-row) (shows 𝓤 H A T.the-row) t (T′.lowered t ∷ []) (λ is-t. move ! (1 ∷ 0 ∷ []) $
-        let tokens = LL.owed T.the-type T′.the-laws t (T′.lowered t ∷ []) is-t .0 in
-        -- [a share of the table's cell; what a table owns; the open borrow; the shared borrow; res; true; room for _5; …; _4; …; _3; …; _2; …; _1; …; room for _0; …]
-        assigns ! (of-opd ! (load ! (from ! (hop ! (look ! 14 refl) (fld ! refl (stop !)))) (look-in ! 0 (sub ! 0 refl (whole !))))) (from ! (stop !)) (init ! 6 refl (tt, record { fits = tokens .1 })) $
-        shuts ! tt T.the-row q′ t (T′.lowered t ∷ []) b o $
+        rewrite ! 4 (λ (w : Val). ‵ (fat fullShare S′.mir l₄ 0 w)) (ap only (S′.lowers .val-is v (u ∷ []) is-v)) refl $ drop ! $
+        -- [the token; room for _5; …; _4; …; _3; …; _2; …; _1; …; room for _0; …; the lent table]
+        move ! (0 ∷ 13 ∷ []) $ asks-bounds 𝓤 H A at-mem run W κ q lent ! fm bounds (and-then ! (load ! (from ! (stop !)) (look ! 9 refl)) (no-more !)) (λ is-b.
+        land ! (from ! (stop !)) (init ! 1 refl (LL.lawful B.the-type B′.the-laws 𝓤 H A W .typed (boundsOf t) (B′.lowered (boundsOf t) ∷ []) is-b .0)) $
+        let tokens = LL.owed B.the-type B′.the-laws (boundsOf t) (B′.lowered (boundsOf t) ∷ []) is-b .0 in
         nothing ! $ use1 W (raw (PutBy .pre (to-put v))) (goes-to-put v seen (subst (Is S.the-row v) (S′.lowers .val-is v _ is-v) is-v) tokens is-e) $
-        calls-at ! fm PutBy puts-by (to-put v) (and-then ! (load ! (from ! (stop !)) (look ! 7 refl)) (and-then ! (load ! (from ! (stop !)) (look ! 5 refl)) (and-then ! (load ! (from ! (stop !)) (look ! 11 refl)) (no-more !)))) (λ u.
+        calls-at ! fm PutBy puts-by (to-put v)
+        (and-then ! (load ! (from ! (stop !)) (look ! 4 refl)) (and-then ! (load ! (from ! (fld ! refl (stop !))) (look-in ! 2 (sub ! 0 refl (whole !)))) (and-then ! (load ! (from ! (stop !)) (look ! 8 refl)) (no-more !)))) (λ u.
         answers ! tt P.the-row (‵ ftrue) (ensured 𝓤 H A put-by.ended (put-by.clauses 𝓤 H A at-mem run) tt (v, (t .tokens, (e, tt))) tt) (PutsBy v (t .tokens) e) u
         (λ p. exE 𝓤 _ (λ ws. snd∗ 𝓤 (sem 𝓤 H A (lasts put-by.ended tt (v, (t .tokens, (e, tt))) ws)) (fact 𝓤 (PutsBy v (t .tokens) e p)))) (λ p puts is-p.
-        -- [what is to be put; true; the token; the shared borrow; res; true; _5; …; _4; …; _3; …; _2; …; _1; …; room for _0; …]
-        land ! (from ! (stop !)) (init ! 16 refl (LL.lawful P.the-type P′.the-laws 𝓤 H A W .typed p (u ∷ []) is-p .0)) $
-        returns ! (look ! 16 refl) $ forget ! 6 refl $ forget ! 8 refl $ forget ! 10 refl $ forget ! 12 refl $ forget ! 14 refl $ forget ! 16 refl $
-        move ! (16 ∷ 17 ∷ []) $ free1 ! $ move ! (14 ∷ 15 ∷ []) $ free1 ! $ move ! (12 ∷ 13 ∷ []) $ free1 ! $ move ! (10 ∷ 11 ∷ []) $ free1 ! $ move ! (8 ∷ 9 ∷ []) $ free1 ! $ move ! (6 ∷ 7 ∷ []) $ free1 ! $ free0 ! $
-        keep ! (2 ∷ 0 ∷ []) $ by ! (exits p u (puts t refl seen)))))))))))))))))
+        -- [what is to be put; true; the token; _5; …; _4; …; _3; …; _2; …; _1; …; room for _0; …]
+        land ! (from ! (stop !)) (init ! 13 refl (LL.lawful P.the-type P′.the-laws 𝓤 H A W .typed p (u ∷ []) is-p .0)) $
+        returns ! (look ! 13 refl) $ forget ! 3 refl $ forget ! 5 refl $ forget ! 7 refl $ forget ! 9 refl $ forget ! 11 refl $ forget ! 13 refl $
+        move ! (13 ∷ 14 ∷ []) $ free1 ! $ move ! (11 ∷ 12 ∷ []) $ free1 ! $ move ! (9 ∷ 10 ∷ []) $ free1 ! $ move ! (7 ∷ 8 ∷ []) $ free1 ! $ move ! (5 ∷ 6 ∷ []) $ free1 ! $ move ! (3 ∷ 4 ∷ []) $ free1 ! $ free0 ! $
+        keep ! (2 ∷ 0 ∷ []) $ by ! (exits p u (puts t refl seen))))))))))))))))
 
 pub weigh-spec : {M : Type 1} → statement M
 unfolding code.routine tablesOf
@@ -158,4 +156,5 @@ weigh-spec 𝓤 H 𝓜 𝓖 𝓡 =
     walk 𝓤 H A W (𝓜 .mem) (𝓡 .run) (κs .0) (qs .0) (a .0 .ptr .0) (a .0 .ptr .1) (a .0 .name) (a .0 .now) (a .1 .0) quiet (𝓣 .C) (𝓣 .Λ) (fmOf 𝓤 H (W .laws) 𝓣)
     (cited 𝓤 H (PartsOf 𝓤 H A W (𝓜 .mem) (𝓡 .run)) 𝓜 𝓡 code.env #parts-of parts-of-symbol.routine code.calls-event·parts-of (parts-of-met.met 𝓤 H 𝓜 𝓖 𝓡))
     (cited 𝓤 H (SurveyIn 𝓤 H A W (𝓜 .mem) (𝓡 .run)) 𝓜 𝓡 code.env #survey-in survey-in-symbol.routine code.calls-in-place·looking·survey-in (survey-in-met.met 𝓤 H 𝓜 𝓖 𝓡))
+    (calls-bounds 𝓤 H 𝓜 𝓖 𝓡 code.env code.calls-in-place·looking·bounds-in)
     (cited 𝓤 H (PutBy 𝓤 H A W (𝓜 .mem) (𝓡 .run)) 𝓜 𝓡 code.env #put-by put-by-symbol.routine code.calls-in-place·putting·put-by (put-by-met.met 𝓤 H 𝓜 𝓖 𝓡))))))

@@ -3,7 +3,7 @@ use Rattle.in_place.proofs.Walk.{Atoms, Calls, Contract, FmC, Fun, GNam
 use base.Fml.{Fml}
 use denote.Enum.Laws as EL
 use denote.Struct.Laws as LL
-use Rattle.in_place.specs.Prelude.{Bounds, Event, Surveyed, Table, about, boundsOf, jobOf, last-seen, true}
+use Rattle.in_place.specs.Prelude.{Event, Surveyed, Table, about, boundsOf, jobOf, last-seen, true}
 use Rattle.event.specs.Events.{partsOf}
 use Rattle.event.specs.declared.events.Parts.{Parts}
 use Rattle.event.proofs.events.Event as Ev
@@ -22,10 +22,7 @@ use Rattle.pass.proofs.known.Survey.Laws as S′
 use Rattle.arbiter.proofs.table.Table as T
 use Rattle.in_place.specs.Waking.{Sweeps, SweepsBy}
 use Rattle.in_place.specs.declared.waking.Sweep.{Sweep}
-use Rattle.in_place.proofs.looking.bounds_in as bounds-in
-use Rattle.in_place.proofs.looking.bounds_in.Met as bounds-in-met
-use Rattle.in_place.proofs.looking.bounds_in.Symbol as bounds-in-symbol
-use Rattle.in_place.proofs.looking.bounds_in.Symbol.{name as #bounds-in}
+use Rattle.in_place.proofs.Bounds.{#bounds-in, BoundsIn, asks-bounds, calls-bounds}
 use Rattle.in_place.proofs.looking.survey_in as survey-in
 use Rattle.in_place.proofs.looking.survey_in.Met as survey-in-met
 use Rattle.in_place.proofs.looking.survey_in.Symbol as survey-in-symbol
@@ -51,9 +48,6 @@ module _ {M : Type 1} (𝓤 : URA M) (H : Heap 𝓤) (A : Atoms 𝓤) (W : Given
 
   abbrev SurveyIn : Contract 𝓤
   SurveyIn = tripleOf 𝓤 H A survey-in.signature (survey-in.spec 𝓤 H A at-mem run)
-
-  abbrev BoundsIn : Contract 𝓤
-  BoundsIn = tripleOf 𝓤 H A bounds-in.signature (bounds-in.spec 𝓤 H A at-mem run)
 
   abbrev SweepBy : Contract 𝓤
   SweepBy = tripleOf 𝓤 H A sweep-by.signature (sweep-by.spec 𝓤 H A at-mem run)
@@ -96,26 +90,21 @@ module _ {M : Type 1} (𝓤 : URA M) (H : Heap 𝓤) (A : Atoms 𝓤) (W : Given
         qed W ((‵ (flft κ q) ⊛ ‵ ftrue) ∷ ‵ Lent ∷ []) ∵ nothing ! $ owned ! u32 (Is u32) (uint-makes 𝓤 H A W w32) j _ is-j $ fjoin ! $
         move ! (2 ∷ 0 ∷ []) $ fjoin ! $ move ! (1 ∷ 0 ∷ []) $ join ! $ frame ! $ done !
 
-    abbrev to-bounds : BoundsIn .Ghost
-    to-bounds = (((κ, tt), (q, tt), tt, (lent, tt), (vptr b o ∷ [], tt)), tt)
-
-    goes-to-bounds : ent 𝓤 (⋆ 𝓤 H A ((‵ (flft κ q) ⊛ ‵ ftrue) ∷ ‵ Lent ∷ [])) (BoundsIn .pre to-bounds)
-    goes-to-bounds = qed W ((‵ (flft κ q) ⊛ ‵ ftrue) ∷ ‵ Lent ∷ []) ∵ nothing ! $ move ! (2 ∷ 0 ∷ []) $ fjoin ! $ move ! (1 ∷ 0 ∷ []) $ join ! $ frame ! $ done !
-
-    abbrev to-sweep : Survey → Bounds → SweepBy .Ghost
-    to-sweep v d = ((tt, tt, tt, (v, (d, (e, (n, tt)))), (S′.lowered v ∷ [], (B′.lowered d ∷ [], (Ev′.lowered e ∷ [], (vint w64 n ∷ [], tt))))), tt)
+    abbrev to-sweep : Survey → SweepBy .Ghost
+    to-sweep v = ((tt, tt, tt, (v, (boundsOf t, (e, (n, tt)))), (S′.lowered v ∷ [], (B′.lowered (boundsOf t) ∷ [], (Ev′.lowered e ∷ [], (vint w64 n ∷ [], tt))))), tt)
 
     goes-to-sweep :
-        (v : Survey) (d : Bounds) → Surveyed (boundsOf t) (t .rows) (jobOf e) v → Is S.the-row v (S′.lowered v ∷ []) → Is B.the-row d (B′.lowered d ∷ []) → Is Ev.the-row e (Ev′.lowered e ∷ []) →
-        ent 𝓤 (sem 𝓤 H A ftrue) (SweepBy .pre (to-sweep v d))
-    goes-to-sweep v d surveyed is-v is-d is-e =
+        (v : Survey) → Surveyed (boundsOf t) (t .rows) (jobOf e) v → Is S.the-row v (S′.lowered v ∷ []) → Is B.the-row (boundsOf t) (B′.lowered (boundsOf t) ∷ []) → Is Ev.the-row e (Ev′.lowered e ∷ []) →
+        ent 𝓤 (sem 𝓤 H A ftrue) (SweepBy .pre (to-sweep v))
+    goes-to-sweep v surveyed is-v is-b is-e =
         qed W (‵ ftrue ∷ []) ∵ says ! (wakes, last-seen t (jobOf e) v surveyed) $ nothing ! $ owned ! usize (Is usize) (uint-makes 𝓤 H A W w64) n _ is-n $ fjoin ! $
-        owned ! Ev.the-row (Is Ev.the-row) ((EL.makes Ev.the-type Ev′.the-plain) 𝓤 H A) e _ is-e $ fjoin ! $ owned ! B.the-row (Is B.the-row) ((LL.makes B.the-type B′.the-plain) 𝓤 H A) d _ is-d $ fjoin ! $
+        owned ! Ev.the-row (Is Ev.the-row) ((EL.makes Ev.the-type Ev′.the-plain) 𝓤 H A) e _ is-e $ fjoin ! $
+        owned ! B.the-row (Is B.the-row) ((LL.makes B.the-type B′.the-plain) 𝓤 H A) (boundsOf t) _ is-b $ fjoin ! $
         owned ! S.the-row (Is S.the-row) ((LL.makes S.the-type S′.the-plain) 𝓤 H A) v _ is-v $ fjoin ! $ move ! (1 ∷ 0 ∷ []) $ done !
 
     walk :
         (C : Calls 𝓤 H) (Λ : Loops 𝓤 H) → FmC 𝓤 H (W .laws) C →
-        Triple 𝓤 (C #parts-of) PartsOf → Triple 𝓤 (C #survey-in) SurveyIn → Triple 𝓤 (C #bounds-in) BoundsIn → Triple 𝓤 (C #sweep-by) SweepBy →
+        Triple 𝓤 (C #parts-of) PartsOf → Triple 𝓤 (C #survey-in) SurveyIn → Triple 𝓤 (C #bounds-in) (BoundsIn 𝓤 H A at-mem run) → Triple 𝓤 (C #sweep-by) SweepBy →
         ent 𝓤 (onEntry 𝓤 H A weigh-waking.signature (κ, tt) (q, tt) x at) (WpFn 𝓤 H C Λ code.function (vptr b o ∷ Ev′.lowered e ∷ vint w64 n ∷ []) Post)
     walk C Λ fm parts surveys bounds sweeps-by =
         qed W ((‵ (flft κ q) ⊛ ‵ ftrue) ∷ ‵ (owns (ShrRef (named 0) κ T.the-row ∷ Ev.the-row ∷ usize ∷ []) x at) ∷ []) ∵ move ! (1 ∷ []) $ fsplit ! $ move ! (1 ∷ []) $ fsplit ! $
@@ -140,25 +129,20 @@ module _ {M : Type 1} (𝓤 : URA M) (H : Heap 𝓤) (A : Atoms 𝓤) (W : Given
         land ! (from ! (stop !)) (init ! 4 refl (LL.lawful S.the-type S′.the-laws 𝓤 H A W .typed v (u ∷ []) is-v .0)) $
         rewrite ! 4 (λ (w : Val). ‵ (fat fullShare S′.mir l₅ 0 w)) (ap only (S′.lowers .val-is v (u ∷ []) is-v)) refl $ drop ! $
         -- [the token; room for _6; …; _5; …; _4; …; _3; …; _2; …; _1; …; room for _0; …; the lent table]
-        move ! (0 ∷ 15 ∷ []) $ use2 W (raw (BoundsIn .pre to-bounds)) goes-to-bounds $
-        calls-at ! fm BoundsIn bounds to-bounds (and-then ! (load ! (from ! (stop !)) (look ! 11 refl)) (no-more !)) (λ u.
-        answers ! tt B.the-row (‵ (flft κ q) ⊛ ‵ ftrue) (ensured 𝓤 H A bounds-in.ended (bounds-in.clauses 𝓤 H A at-mem run) (κ, tt) (lent, tt) tt) (λ d. d ≡ boundsOf t) u
-        (λ d. exE 𝓤 _ (λ ws. snd∗ 𝓤 (sem 𝓤 H A (lasts bounds-in.ended (κ, tt) (lent, tt) ws)) (fact 𝓤 (d ≡ boundsOf t)))) (λ d numbers is-d.
-        land ! (from ! (stop !)) (init ! 2 refl (LL.lawful B.the-type B′.the-laws 𝓤 H A W .typed d (u ∷ []) is-d .0)) $
-        rewrite ! 2 (λ (w : Val). ‵ (fat fullShare B′.mir l₆ 0 w)) (ap only (B′.lowers .val-is d (u ∷ []) is-d)) refl $ drop ! $
+        move ! (0 ∷ 15 ∷ []) $ asks-bounds 𝓤 H A at-mem run W κ q lent ! fm bounds (and-then ! (load ! (from ! (stop !)) (look ! 11 refl)) (no-more !)) (λ is-b.
+        land ! (from ! (stop !)) (init ! 1 refl (LL.lawful B.the-type B′.the-laws 𝓤 H A W .typed (boundsOf t) (B′.lowered (boundsOf t) ∷ []) is-b .0)) $
         -- [the token; _6; …; _5; …; _4; …; _3; …; _2; …; _1; …; room for _0; …]
-        nothing ! $ use1 W (raw (SweepBy .pre (to-sweep v d)))
-        (goes-to-sweep v d seen (subst (Is S.the-row v) (S′.lowers .val-is v _ is-v) is-v) (subst (Is B.the-row d) (B′.lowers .val-is d _ is-d) is-d) is-e) $
-        calls-at ! fm SweepBy sweeps-by (to-sweep v d)
+        nothing ! $ use1 W (raw (SweepBy .pre (to-sweep v))) (goes-to-sweep v seen (subst (Is S.the-row v) (S′.lowers .val-is v _ is-v) is-v) is-b is-e) $
+        calls-at ! fm SweepBy sweeps-by (to-sweep v)
         (and-then ! (load ! (from ! (stop !)) (look ! 4 refl)) (and-then ! (load ! (from ! (stop !)) (look ! 2 refl)) (and-then ! (load ! (from ! (stop !)) (look ! 10 refl)) (and-then ! (load ! (from ! (stop !)) (look ! 8 refl)) (no-more !))))) (λ u.
-        answers ! tt P.the-row (‵ ftrue) (ensured 𝓤 H A sweep-by.ended (sweep-by.clauses 𝓤 H A at-mem run) tt (v, (d, (e, (n, tt)))) tt) (SweepsBy v d e n) u
-        (λ c. exE 𝓤 _ (λ ws. snd∗ 𝓤 (sem 𝓤 H A (lasts sweep-by.ended tt (v, (d, (e, (n, tt)))) ws)) (fact 𝓤 (SweepsBy v d e n c)))) (λ c sweeps is-c.
+        answers ! tt P.the-row (‵ ftrue) (ensured 𝓤 H A sweep-by.ended (sweep-by.clauses 𝓤 H A at-mem run) tt (v, (boundsOf t, (e, (n, tt)))) tt) (SweepsBy v (boundsOf t) e n) u
+        (λ c. exE 𝓤 _ (λ ws. snd∗ 𝓤 (sem 𝓤 H A (lasts sweep-by.ended tt (v, (boundsOf t, (e, (n, tt)))) ws)) (fact 𝓤 (SweepsBy v (boundsOf t) e n c)))) (λ c sweeps is-c.
         -- [what it comes to; true; the token; _6; …; _5; …; _4; …; _3; …; _2; …; _1; …; room for _0; …]
         land ! (from ! (stop !)) (init ! 15 refl (LL.lawful P.the-type P′.the-laws 𝓤 H A W .typed c (u ∷ []) is-c .0)) $
         returns ! (look ! 15 refl) $ forget ! 3 refl $ forget ! 5 refl $ forget ! 7 refl $ forget ! 9 refl $ forget ! 11 refl $ forget ! 13 refl $ forget ! 15 refl $
         move ! (15 ∷ 16 ∷ []) $ free1 ! $ move ! (13 ∷ 14 ∷ []) $ free1 ! $ move ! (11 ∷ 12 ∷ []) $ free1 ! $ move ! (9 ∷ 10 ∷ []) $ free1 ! $ move ! (7 ∷ 8 ∷ []) $ free1 ! $
         move ! (5 ∷ 6 ∷ []) $ free1 ! $ move ! (3 ∷ 4 ∷ []) $ free1 ! $ free0 ! $
-        keep ! (2 ∷ 0 ∷ []) $ by ! (exits c u (sweeps t numbers seen))))))))))))))))))
+        keep ! (2 ∷ 0 ∷ []) $ by ! (exits c u (sweeps t refl seen)))))))))))))))))
 
 pub weigh-waking-spec : {M : Type 1} → statement M
 unfolding code.routine tablesOf
@@ -180,5 +164,5 @@ weigh-waking-spec 𝓤 H 𝓜 𝓖 𝓡 =
     walk 𝓤 H A W (𝓜 .mem) (𝓡 .run) (κs .0) (qs .0) (a .0 .ptr .0) (a .0 .ptr .1) (a .0 .name) (a .0 .now) (a .1 .0) (a .1 .1 .0) (are .1 .1 .0) wakes (𝓣 .C) (𝓣 .Λ) (fmOf 𝓤 H (W .laws) 𝓣)
     (cited 𝓤 H (PartsOf 𝓤 H A W (𝓜 .mem) (𝓡 .run)) 𝓜 𝓡 code.env #parts-of parts-of-symbol.routine code.calls-event·parts-of (parts-of-met.met 𝓤 H 𝓜 𝓖 𝓡))
     (cited 𝓤 H (SurveyIn 𝓤 H A W (𝓜 .mem) (𝓡 .run)) 𝓜 𝓡 code.env #survey-in survey-in-symbol.routine code.calls-in-place·looking·survey-in (survey-in-met.met 𝓤 H 𝓜 𝓖 𝓡))
-    (cited 𝓤 H (BoundsIn 𝓤 H A W (𝓜 .mem) (𝓡 .run)) 𝓜 𝓡 code.env #bounds-in bounds-in-symbol.routine code.calls-in-place·looking·bounds-in (bounds-in-met.met 𝓤 H 𝓜 𝓖 𝓡))
+    (calls-bounds 𝓤 H 𝓜 𝓖 𝓡 code.env code.calls-in-place·looking·bounds-in)
     (cited 𝓤 H (SweepBy 𝓤 H A W (𝓜 .mem) (𝓡 .run)) 𝓜 𝓡 code.env #sweep-by sweep-by-symbol.routine code.calls-in-place·waking·sweep-by (sweep-by-met.met 𝓤 H 𝓜 𝓖 𝓡))))))
