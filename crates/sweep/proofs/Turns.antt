@@ -1,6 +1,5 @@
 -- What the loop over lent rows keeps, and what one turn of it makes of that.
-use Rattle.sweep.specs.Prelude.{Bool, Line, Lines, List, Listed, Row, Standing, _&&_, _+_, _-_, _<_, _∙_, _≡_, _≤_, and-left, and-right, arith, bit, front, getD, idle, inl, inr, jobs, length, length-set, line, live, live-within, ltb, ltb-true, not, refl, rowOf, set, settled, soundBy, subst, sym, true, false, woken, ℕ, ⊎-elim, [], _∷_}
-use Rattle.sweep.specs.Prelude.{Bounds}
+use Rattle.sweep.specs.Prelude.{Bool, Bounds, Line, Lines, List, Row, Standing, [], _&&_, _+_, _<_, _∷_, _≡_, _≤_, and-left, and-right, arith, bit, false, front, getD, idle, inl, inr, jobs, length, live, live-within, ltb, ltb-true, not, refl, rowOf, set, soundBy, subst, sym, true, ℕ, ⊎-elim}
 use Rattle.sweep.specs.Passing.{noted, passedBy}
 use Rattle.sweep.specs.SteadyLaws.{sound-steady, sound-tokens}
 use Rattle.sweep.specs.Sweeping.{Acts, Onward, Settles}
@@ -18,15 +17,41 @@ use Rattle.rows.proofs.row.Row.Laws as R′
 use Rattle.rows.proofs.stand.Standing as S
 use Rattle.rows.proofs.stand.Standing.Laws as S′
 use mathlib.Core.List.{map}
+use Prim.Native.Nat.{_*_, _^_}
+use lib.Dec.{lit<}
+use mir.Syntax.{Ty, tyArray}
 use mir.Val.{Val}
 use denote.Array.{Array, arrayVal}
 use denote.Laws.{Is}
 use denote.RattleType.{RattleType}
 use denote.Struct.Laws as LL
 
+-- ---- Numbers that fit
+
+-- a job, as a byte and as a word
+pub byte : (n : ℕ) → n < 64 → n < 2 ^ 8
+byte n small = omega (arith, small)
+
+pub word : (n : ℕ) → n < 64 → n < 2 ^ 64
+word n small = omega (arith, small)
+
+-- a number of jobs
+pub few : (n : ℕ) → n ≤ 64 → n < 2 ^ 32
+few n small = omega (arith, small)
+
+-- where a row begins
+pub near : (n : ℕ) → n < 64 → n * 40 < 2 ^ 64
+near n small = omega (arith, small)
+
+-- ---- Rows, and what is made of them
+
 -- the rows of a table, as a type
 abbrev pub Rows : RattleType
 Rows = Array R.the-row 64
+
+-- and as they lie
+abbrev pub rowsTy : Ty
+rowsTy = tyArray R′.mir 64
 
 -- these are rows, at the machine values that rows have
 abbrev pub AreRows : List Row → Type 0
@@ -38,6 +63,12 @@ IsRow r = Is R.the-row r (R′.lowered r ∷ [])
 
 abbrev pub IsStanding : Standing → Type 0
 IsStanding s = Is S.the-row s (S′.lowered s ∷ [])
+
+-- what stands before the first
+pub is-front : IsStanding front
+is-front =
+    let fields = LL.owes S.the-type S′.the-laws front ((refl, lit< tt), ((refl, lit< tt), tt)) in
+    subst (Is S.the-row front) (S′.lowers .val-is front (LL.vals S.the-type S′.the-laws front) fields) fields
 
 -- a row of these rows, and these rows with another in the place of one
 pub row-of : (rows : List Row) (j : ℕ) → AreRows rows → j < 64 → IsRow (rowOf rows j)
@@ -58,6 +89,8 @@ pub passed-standing : (q : Passed) (vs : List Val) → Is P.the-row q vs → IsS
 passed-standing q vs is =
     let s = LL.owed P.the-type P′.the-laws q vs is .1 .0 in
     subst (Is S.the-row (q .s)) (S′.lowers .val-is (q .s) _ s) s
+
+-- ---- The loop
 
 -- what is asked of whoever settles rows that are lent
 pub record Asked (rows : List Row) (l : Line) (b : Bounds) (k : ℕ) (row : Row) (out : List ℕ) : Type 0 where
@@ -99,8 +132,8 @@ module _ {rows : List Row} {l : Line} {b : Bounds} {k : ℕ} {row : Row} {out : 
   few-tokens = sound-tokens b rows (asked .sound)
 
   -- before the first turn
-  abbrev pub begins : IsRow row → IsStanding front → At rows l b k row out
-  begins is-row is-front =
+  abbrev pub begins : IsRow row → At rows l b k row out
+  begins is-row =
       record {
         rows = set rows k row;
         out = out;

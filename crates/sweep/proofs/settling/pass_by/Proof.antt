@@ -1,6 +1,5 @@
-use Rattle.sweep.specs.Prelude.{Row, Standing, _∙_, false, needs, sym, true}
+use Rattle.sweep.specs.Prelude.{_∙_, false, needs, sym, true}
 use Rattle.sweep.specs.PassingLaws.{passed-gone, passed-stays, passed-wakes}
-use Rattle.sweep.specs.declared.settling.Passed.{Passed}
 use Rattle.sweep.proofs.settling.pass_by.Statement.{statement}
 use Rattle.sweep.proofs.settling.pass_by.Tie as tie
 
