@@ -10,3 +10,7 @@ use Rattle.numbers.specs.Numbers.{refusalIn}
 pub record Recorded (e : Entry) (before : List ℕ) (r : ℕ) (after : List ℕ) : Type 0 where
   pub answers : r ≡ refusalIn (writeAnswer e before)
   pub leaves : after ≡ roomAfter e before
+
+-- the version of the calls under C's names
+abbrev pub version : ℕ
+version = 1

@@ -3,6 +3,7 @@
 // `norakkeun.h` beside this folder declares them once more; that the two agree is shown by running, not proved.
 mod calls;
 mod files;
+mod lent;
 mod records;
 
 pub use calls::norakkeun_ask;
@@ -16,6 +17,13 @@ pub use calls::norakkeun_report;
 pub use calls::norakkeun_start;
 pub use files::norakkeun_load;
 pub use files::norakkeun_save;
+pub use lent::norakkeun_ask_in;
+pub use lent::norakkeun_beat_in;
+pub use lent::norakkeun_open_in;
+pub use lent::norakkeun_overdue_of;
+pub use lent::norakkeun_release_in;
+pub use lent::norakkeun_report_of;
+pub use lent::norakkeun_version;
 pub use records::norakkeun_record_ask;
 pub use records::norakkeun_record_beat;
 pub use records::norakkeun_record_complete;

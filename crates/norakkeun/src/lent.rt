@@ -1,0 +1,78 @@
+// The calls on a table that is lent: each is the call by value of the same name, and the table changes where it lies.
+ghost use mathlib.Core.Path.{_≡_};
+ghost use lib.ListN.{length};
+ghost use Rattle.event.specs.declared.events.Event.the-variants.{Ask, Beat, Open, Release};
+ghost use Rattle.event.specs.Limits.{jobs};
+ghost use Rattle.arbiter.specs.Meaning.{overdue, overdueList, report};
+ghost use Rattle.numbers.specs.Numbers.{lateInNumbers, reportInNumbers};
+ghost use Rattle.in_place.specs.Promises.{InPlace};
+ghost use Rattle.norakkeun.specs.Promises.{version};
+use arbiter::Table;
+use event::Event;
+use event::Tick;
+use in_place::carry;
+use numbers::EventAnswer;
+use numbers::JobReport;
+use numbers::LateJobs;
+use crate::calls::norakkeun_overdue;
+use crate::calls::norakkeun_report;
+
+// What a caller compares with the number in the header that it was compiled with.
+const VERSION: u32 = 1;
+
+// Only the clock moves.
+#[no_mangle]
+pub extern "C" fn norakkeun_beat_in(table: &mut Table, tick: Tick) -> EventAnswer
+    ensures { λ r. ⌜ InPlace jobs (now (table .entry)) (Beat tick) r (now (table .exit)) ⌝ }
+{
+    carry(table, Event::Beat(tick))
+}
+
+// The job's request becomes live with the next turn and this declared set.
+#[no_mangle]
+pub extern "C" fn norakkeun_open_in(table: &mut Table, job: u32, tick: Tick, set: u64) -> EventAnswer
+    ensures { λ r. ⌜ InPlace jobs (now (table .entry)) (Open job tick set) r (now (table .exit)) ⌝ }
+{
+    carry(table, Event::Open { job, tick, set })
+}
+
+// The whole set is held, or the whole set is asked.
+#[no_mangle]
+pub extern "C" fn norakkeun_ask_in(table: &mut Table, job: u32, tick: Tick, set: u64) -> EventAnswer
+    ensures { λ r. ⌜ InPlace jobs (now (table .entry)) (Ask job tick set) r (now (table .exit)) ⌝ }
+{
+    carry(table, Event::Ask { job, tick, set })
+}
+
+// The members leave the held set.
+#[no_mangle]
+pub extern "C" fn norakkeun_release_in(table: &mut Table, job: u32, tick: Tick, set: u64) -> EventAnswer
+    ensures { λ r. ⌜ InPlace jobs (now (table .entry)) (Release job tick set) r (now (table .exit)) ⌝ }
+{
+    carry(table, Event::Release { job, tick, set })
+}
+
+// What is told of a job's request.
+#[no_mangle]
+pub extern "C" fn norakkeun_report_of(table: &Table, job: u32) -> JobReport
+    ensures { λ r. ⌜ r ≡ reportInNumbers (report (now (table .entry)) job) ⌝ }
+{
+    norakkeun_report(*table, job)
+}
+
+// The jobs whose wait is the limit or more, written to the lent list in order of turn.
+#[no_mangle]
+pub extern "C" fn norakkeun_overdue_of(table: &Table, tick: Tick, late: &mut [u8]) -> LateJobs
+    ensures { λ r. ⌜ r ≡ lateInNumbers (overdue (length (now (late .entry))) (now (table .entry)) (tick .0)) ⌝ }
+    ensures { λ _. ⌜ now (late .exit) ≡ overdueList (now (table .entry)) (tick .0) (now (late .entry)) ⌝ }
+{
+    norakkeun_overdue(*table, tick, late)
+}
+
+// The version of these calls, by the number that the header was written for.
+#[no_mangle]
+pub extern "C" fn norakkeun_version() -> u32
+    ensures { λ r. ⌜ r ≡ version ⌝ }
+{
+    VERSION
+}
