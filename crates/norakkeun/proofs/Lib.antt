@@ -2,3 +2,4 @@
 mod Numbered
 mod Passing
 mod PassingSet
+mod Reading

@@ -12,7 +12,6 @@ use types.Run.{lit}
 use denote.Builtin.{RefMutOf, u32, u64}
 use denote.Memory.{pointee}
 use denote.Plain.{uint-makes, uint-tells, uint-vals}
-use denote.Signature.{Signature}
 use denote.Triple.Clauses.{Clauses, Ended, closing}
 use denote.Triple.Spec.{Meets}
 use denote.Enum.Laws as EL

@@ -1,4 +1,5 @@
-// The calls on a table that is lent: each is the call by value of the same name, and the table changes where it lies.
+// The calls on a table that is lent: the events change it where it lies, the questions read it there. Each answers as the call
+// by value of the same name does.
 ghost use mathlib.Core.Path.{_≡_};
 ghost use lib.ListN.{length};
 ghost use Rattle.event.specs.declared.events.Event.the-variants.{Ask, Beat, Open, Release};
@@ -6,7 +7,8 @@ ghost use Rattle.event.specs.Limits.{jobs};
 ghost use Rattle.arbiter.specs.Meaning.{overdue, overdueList, report};
 ghost use Rattle.numbers.specs.Numbers.{lateInNumbers, reportInNumbers};
 ghost use Rattle.in_place.specs.Promises.{InPlace};
-ghost use Rattle.norakkeun.specs.Promises.{version};
+use crate::calls::norakkeun_overdue;
+use crate::calls::norakkeun_report;
 use arbiter::Table;
 use event::Event;
 use event::Tick;
@@ -14,11 +16,6 @@ use in_place::carry;
 use numbers::EventAnswer;
 use numbers::JobReport;
 use numbers::LateJobs;
-use crate::calls::norakkeun_overdue;
-use crate::calls::norakkeun_report;
-
-// What a caller compares with the number in the header that it was compiled with.
-const VERSION: u32 = 1;
 
 // Only the clock moves.
 #[no_mangle]
@@ -30,7 +27,12 @@ pub extern "C" fn norakkeun_beat_in(table: &mut Table, tick: Tick) -> EventAnswe
 
 // The job's request becomes live with the next turn and this declared set.
 #[no_mangle]
-pub extern "C" fn norakkeun_open_in(table: &mut Table, job: u32, tick: Tick, set: u64) -> EventAnswer
+pub extern "C" fn norakkeun_open_in(
+    table: &mut Table,
+    job: u32,
+    tick: Tick,
+    set: u64,
+) -> EventAnswer
     ensures { λ r. ⌜ InPlace jobs (now (table .entry)) (Open job tick set) r (now (table .exit)) ⌝ }
 {
     carry(table, Event::Open { job, tick, set })
@@ -46,7 +48,12 @@ pub extern "C" fn norakkeun_ask_in(table: &mut Table, job: u32, tick: Tick, set:
 
 // The members leave the held set.
 #[no_mangle]
-pub extern "C" fn norakkeun_release_in(table: &mut Table, job: u32, tick: Tick, set: u64) -> EventAnswer
+pub extern "C" fn norakkeun_release_in(
+    table: &mut Table,
+    job: u32,
+    tick: Tick,
+    set: u64,
+) -> EventAnswer
     ensures { λ r. ⌜ InPlace jobs (now (table .entry)) (Release job tick set) r (now (table .exit)) ⌝ }
 {
     carry(table, Event::Release { job, tick, set })
@@ -67,12 +74,4 @@ pub extern "C" fn norakkeun_overdue_of(table: &Table, tick: Tick, late: &mut [u8
     ensures { λ _. ⌜ now (late .exit) ≡ overdueList (now (table .entry)) (tick .0) (now (late .entry)) ⌝ }
 {
     norakkeun_overdue(*table, tick, late)
-}
-
-// The version of these calls, by the number that the header was written for.
-#[no_mangle]
-pub extern "C" fn norakkeun_version() -> u32
-    ensures { λ r. ⌜ r ≡ version ⌝ }
-{
-    VERSION
 }

@@ -7,7 +7,6 @@ use denote.Enum.Laws as EL
 use denote.Struct.Laws as LL
 use Rattle.event.specs.Limits.{jobs}
 use Rattle.event.specs.declared.clock.Tick.{Tick}
-use Rattle.event.specs.declared.events.Event.{Event}
 use Rattle.event.specs.declared.events.Event.the-variants.{Beat}
 use Rattle.event.proofs.clock.Tick as Ti
 use Rattle.event.proofs.clock.Tick.Laws as Ti′

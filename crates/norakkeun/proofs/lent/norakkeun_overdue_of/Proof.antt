@@ -1,8 +1,9 @@
 -- A walk of the code by hand: the table is read behind its reference, and the question by value is asked of it, with the list lent on for good. Of that the contract alone is used.
-use Rattle.in_place.proofs.Walk.{Atoms, Calls, Contract, FmC, Fun, GName, Given, Heap, Is, Lft, List, Loops, Memory, RefT, Routine, SProp, Share, ShrRef, Stays, Triple, URA, Val, WpFn, WpFn-mono, [], _$_, _∵_, _∷_, _≡_, _⊛_, addr, agg, alloc0, alloc1, and-then, answers-leaving, assigns, by, calls-at, cited, done, drop, emp, ends-at, ensured, ent, enter, entered, exE, fact, feqI, feqL, fjoin, fjoin3, fld, flft, fmOf, forget, frame, free0, free1, fres, from, fshr-bor, fsplit, fsplit3, fst∗, ftrue, givenOf, goes-none, goes-none-ref, hop, init, join, keep, land, lasts, load, look, look-in, look-raw, looks, move, named, no-more, nothing, of-opd, onEntry, owned, owns, params1, partAt, pass0, pass1, peeks, plain, ptr-vals, qed, raw, refl, returns, says, sem, sep, shows, shr-tells, shuts, snd∗, spelt, split, stay-none, stay-none-ref, stop, sub, subst, suffices, tables, tablesOf, tripleOf, use1, use2, via, vptr, walk-meets, walkOf, walked, whole, yes, ‵, ℕ, ⋆, ! }
+use Rattle.in_place.proofs.Walk.{Atoms, Calls, Contract, FmC, Fun, GName, Given, Heap, Is, Lft, List, Loops, Memory, RefT, Routine, SProp, Share, ShrRef, Stays, Triple, URA, Val, WpFn, WpFn-mono, [], _$_, _∵_, _∷_, _≡_, _⊛_, addr, agg, alloc0, alloc1, and-then, answers-leaving, assigns, by, calls-at, cited, done, drop, emp, ends-at, ensured, ent, enter, entered, exE, fact, feqI, feqL, fjoin, fjoin3, fld, flft, fmOf, forget, frame, free0, free1, fres, from, fshr-bor, fsplit, fsplit3, fst∗, ftrue, givenOf, goes-none, goes-none-ref, hop, init, join, keep, land, lasts, load, look, look-in, look-raw, move, named, no-more, nothing, of-opd, onEntry, owned, owns, params1, partAt, pass0, pass1, plain, ptr-vals, qed, raw, refl, returns, says, sem, sep, shr-tells, shuts, snd∗, split, stay-none, stay-none-ref, stop, sub, subst, suffices, tables, tablesOf, tripleOf, use2, via, vptr, walk-meets, walkOf, walked, whole, yes, ‵, ℕ, ⋆, ! }
 use lib.ListN.{length}
 use base.Logic.{emp∗, comm∗, monoL}
 use contract.Monad.{fact-use, factI}
+use types.Kit.{Item, Step, prop}
 use denote.Builtin.{u8}
 use denote.Slice.{MutSlice, Room, finally, mut-slice-tells, slice-vals, sliceVal}
 use denote.Struct.Laws as LL
@@ -18,6 +19,7 @@ use Rattle.numbers.specs.Numbers.{lateInNumbers}
 use Rattle.numbers.specs.declared.LateJobs.{LateJobs}
 use Rattle.numbers.proofs.LateJobs as J
 use Rattle.numbers.proofs.LateJobs.Laws as J′
+use Rattle.norakkeun.proofs.Reading.{looks-into}
 use Rattle.norakkeun.proofs.calls.norakkeun_overdue as by-value
 use Rattle.norakkeun.proofs.calls.norakkeun_overdue.Met as by-value-met
 use Rattle.norakkeun.proofs.calls.norakkeun_overdue.Symbol as by-value-symbol
@@ -30,17 +32,19 @@ use Rattle.norakkeun.proofs.lent.norakkeun_overdue_of.Statement.{statem
 abbrev stayed : Stays (overdue-of.ended .signature .params) (overdue-of.ended .kept)
 stayed = (stay-none-ref (0 ∷ []) tt (plain (λ _. T.the-row)) yes, (stay-none (λ _. Ti.the-row) yes, (gave-slice (1 ∷ []) tt (plain (λ _. u8)), tt)))
 
+-- what two clauses say
+says-both :
+    {M : Type 1} {𝓤 : URA M} {H : Heap 𝓤} {A : Atoms 𝓤} {K : Type 0} {W : Given 𝓤 H A} {Γ : List (Item 𝓤)} → K → {φ ψ : Type 0} {P : SProp 𝓤} → φ → ψ →
+    Step K W Γ (prop P) Γ (prop (sep 𝓤 P (sep 𝓤 (fact 𝓤 φ) (fact 𝓤 ψ))))
+says-both {𝓤 = 𝓤} t {φ} {ψ} {P} x y =
+    suffices t P (via 𝓤 (sep 𝓤 (emp 𝓤) P) (emp∗ 𝓤 P) (via 𝓤 (sep 𝓤 (sep 𝓤 (fact 𝓤 φ) (fact 𝓤 ψ)) P)
+    (monoL 𝓤 P (via 𝓤 (fact 𝓤 ψ) (factI 𝓤 ψ (emp 𝓤) y) (via 𝓤 (sep 𝓤 (emp 𝓤) (fact 𝓤 ψ)) (emp∗ 𝓤 (fact 𝓤 ψ)) (monoL 𝓤 (fact 𝓤 ψ) (factI 𝓤 φ (emp 𝓤) x)))))
+    (comm∗ 𝓤 (sep 𝓤 (fact 𝓤 φ) (fact 𝓤 ψ)) P)))
+
 module _ {M : Type 1} (𝓤 : URA M) (H : Heap 𝓤) (A : Atoms 𝓤) (W : Given 𝓤 H A) (at-mem : Memory → SProp 𝓤) (run : Routine → Fun 𝓤) where
   -- what is known of the callee
   abbrev ByValue : Contract 𝓤
   ByValue = tripleOf 𝓤 H A by-value.signature (by-value.spec 𝓤 H A at-mem run)
-
-  -- two clauses are said at once
-  both : {P : SProp 𝓤} (φ ψ : Type 0) → φ → ψ → ent 𝓤 P (sep 𝓤 P (sep 𝓤 (fact 𝓤 φ) (fact 𝓤 ψ)))
-  both {P} φ ψ x y =
-      via 𝓤 (sep 𝓤 (emp 𝓤) P) (emp∗ 𝓤 P) (via 𝓤 (sep 𝓤 (sep 𝓤 (fact 𝓤 φ) (fact 𝓤 ψ)) P)
-      (monoL 𝓤 P (via 𝓤 (fact 𝓤 ψ) (factI 𝓤 ψ (emp 𝓤) y) (via 𝓤 (sep 𝓤 (emp 𝓤) (fact 𝓤 ψ)) (emp∗ 𝓤 (fact 𝓤 ψ)) (monoL 𝓤 (fact 𝓤 ψ) (factI 𝓤 φ (emp 𝓤) x)))))
-      (comm∗ 𝓤 (sep 𝓤 (fact 𝓤 φ) (fact 𝓤 ψ)) P))
 
   module _ (κ λ′ : Lft) (q q″ : Share) (b o : ℕ) (γ : GName) (h : Table) (t : Tick) (lb lo : ℕ) (δ : GName) (ys : List ℕ)
       (is-t : Is Ti.the-row t (Ti′.lowered t ∷ [])) (room : Room u8 (length ys)) where
@@ -100,7 +104,7 @@ module _ {M : Type 1} (𝓤 : URA M) (H : Heap 𝓤) (A : Atoms 𝓤) (W : Given
     exits r u told =
         qed W (‵ (J.the-row .own r (u ∷ [])) ∷ (‵ (flft λ′ q″) ⊛ ‵ ftrue) ∷ ‵ (finally u8 δ zs) ∷ ‵ (flft κ q) ∷ ‵ (fres γ (T.the-row .coded .code h)) ∷ ‵ (fshr-bor κ (λ p. partAt T.the-row p h b o)) ∷ []) ∵
         suffices ! _ (ends-at 𝓤 H A overdue-of.ended stayed (overdue-of.clauses 𝓤 H A at-mem run) W (((κ, (λ′, tt)), (q, (q″, tt)), tt, x, at), tt) u r (tt, (tt, (zs, tt))) (tt, (tt, (told .1, tt)))) $
-        suffices ! _ (both (Told r) (zs ≡ zs) (told .0) refl) $
+        says-both ! (told .0) refl $
         move ! (3 ∷ 1 ∷ []) $ join ! $ frame ! $
         nothing ! $ move ! (2 ∷ 0 ∷ []) $ fjoin ! $ owned ! Ti.the-row (Is Ti.the-row) ((LL.makes Ti.the-type Ti′.the-plain) 𝓤 H A) t _ is-t $ fjoin ! $
         move ! (2 ∷ 3 ∷ []) $ feqI ! (List Val) (vptr b o ∷ []) (vptr b o ∷ []) refl $ fjoin3 ! $ move ! (0 ∷ 1 ∷ []) $ fjoin ! $ frame ! $ done !
@@ -116,9 +120,7 @@ module _ {M : Type 1} (𝓤 : URA M) (H : Heap 𝓤) (A : Atoms 𝓤) (W : Given
         alloc1 ! (λ l₀. alloc1 ! (λ l₁. alloc1 ! (λ l₂. alloc1 ! (λ l₃. alloc1 ! (λ l₄. alloc1 ! (λ l₅. alloc1 ! (λ l₆. alloc0 ! $ params1 ! $
         pass1 ! (init ! 10 refl (tt, tt)) $ pass1 ! (init ! 8 refl (LL.lawful Ti.the-type Ti′.the-laws 𝓤 H A W .typed t _ is-t .0)) $ pass1 ! (init ! 6 refl (tt, (tt, (record { fits = room .0 }, tt)))) $ pass0 ! $
         move ! (14 ∷ 15 ∷ []) $
-        looks ! tt T.the-row (Is T.the-row) (shows 𝓤 H A T.the-row) (λ t. T′.lowered t ∷ []) (T′.lowers .val-is) (LL.copy T.the-type T′.the-copy 𝓤 H A W) h b o (λ q′ vs.
-        spelt ! T.the-row (Is T.the-row) (shows 𝓤 H A T.the-row) (λ t. T′.lowered t ∷ []) (T′.lowers .val-is) q′ h vs b o $
-        move ! (1 ∷ []) $ peeks ! T.the-row (Is T.the-row) (shows 𝓤 H A T.the-row) h (T′.lowered h ∷ []) (λ is-h. move ! (1 ∷ 0 ∷ []) $
+        looks-into ! tt h b o (λ q′ is-h.
         -- [a share of the table's cell; what a table owns; the open borrow; the shared borrow; room for _6; …; room for _5; …; room for _4; …; _3; …; _2; …; _1; …; room for _0; …; res; the list; its token; …]
         assigns ! (of-opd ! (load ! (from ! (hop ! (look ! 14 refl) (stop !))) (look-raw ! 0 refl))) (from ! (stop !)) (init ! 8 refl (LL.lawful T.the-type T′.the-laws 𝓤 H A W .typed h (T′.lowered h ∷ []) is-h .0)) $
         shuts ! tt T.the-row q′ h (T′.lowered h ∷ []) b o $
@@ -134,7 +136,7 @@ module _ {M : Type 1} (𝓤 : URA M) (H : Heap 𝓤) (A : Atoms 𝓤) (W : Given
         returns ! (look ! 17 refl) $ forget ! 5 refl $ forget ! 7 refl $ forget ! 9 refl $ forget ! 11 refl $ forget ! 13 refl $ forget ! 15 refl $ forget ! 17 refl $
         move ! (17 ∷ 18 ∷ []) $ free1 ! $ move ! (15 ∷ 16 ∷ []) $ free1 ! $ move ! (13 ∷ 14 ∷ []) $ free1 ! $ move ! (11 ∷ 12 ∷ []) $ free1 ! $
         move ! (9 ∷ 10 ∷ []) $ free1 ! $ move ! (7 ∷ 8 ∷ []) $ free1 ! $ move ! (5 ∷ 6 ∷ []) $ free1 ! $ free0 ! $
-        keep ! (0 ∷ 1 ∷ 2 ∷ 3 ∷ 5 ∷ 4 ∷ []) $ by ! (exits r u told))))))))))))
+        keep ! (0 ∷ 1 ∷ 2 ∷ 3 ∷ 5 ∷ 4 ∷ []) $ by ! (exits r u told)))))))))))
 
 pub norakkeun-overdue-of-spec : {M : Type 1} → statement M
 unfolding code.routine tablesOf

@@ -1,5 +1,5 @@
 -- A walk of the code by hand: the table is read behind its reference, and the question by value is asked of it. Of that the contract alone is used.
-use Rattle.in_place.proofs.Walk.{Atoms, Calls, Contract, FmC, Fun, GName, Given, Heap, Is, Lft, List, Loops, Memory, RefT, Routine, SProp, Share, ShrRef, Stays, Triple, URA, Val, WpFn, WpFn-mono, [], _$_, _∵_, _∷_, _≡_, _⊛_, alloc0, alloc1, and-then, answers, assigns, by, calls-at, cited, done, drop, emp, ends-at, ensured, ent, enter, entered, exE, fact, feqI, fjoin, fjoin3, flft, fmOf, forget, frame, free0, free1, fres, from, fshr-bor, fsplit, fsplit3, fst∗, ftrue, givenOf, goes-none, goes-none-ref, hop, init, join, keep, land, lasts, load, look, look-raw, looks, move, named, no-more, nothing, of-opd, onEntry, owned, owns, params1, partAt, pass0, pass1, peeks, plain, ptr-vals, qed, raw, refl, returns, says, sem, shows, shr-tells, shuts, snd∗, spelt, split, stay-none, stay-none-ref, stop, suffices, tables, tablesOf, tripleOf, use1, via, vptr, walk-meets, walkOf, walked, yes, ‵, ℕ, ⋆, ! }
+use Rattle.in_place.proofs.Walk.{Atoms, Calls, Contract, FmC, Fun, GName, Given, Heap, Is, Lft, List, Loops, Memory, RefT, Routine, SProp, Share, ShrRef, Stays, Triple, URA, Val, WpFn, WpFn-mono, [], _$_, _∵_, _∷_, _≡_, _⊛_, alloc0, alloc1, and-then, answers, assigns, by, calls-at, cited, done, drop, emp, ends-at, ensured, ent, enter, entered, exE, fact, feqI, fjoin, fjoin3, flft, fmOf, forget, frame, free0, free1, fres, from, fshr-bor, fsplit, fsplit3, fst∗, ftrue, givenOf, goes-none, goes-none-ref, hop, init, join, keep, land, lasts, load, look, look-raw, move, named, no-more, nothing, of-opd, onEntry, owned, owns, params1, partAt, pass0, pass1, plain, ptr-vals, qed, raw, refl, returns, says, sem, shr-tells, shuts, snd∗, split, stay-none, stay-none-ref, stop, suffices, tables, tablesOf, tripleOf, use1, via, vptr, walk-meets, walkOf, walked, yes, ‵, ℕ, ⋆, ! }
 use mir.Syntax.{w32}
 use mir.Val.{vint}
 use denote.Builtin.{u32}
@@ -13,6 +13,7 @@ use Rattle.numbers.specs.Numbers.{reportInNumbers}
 use Rattle.numbers.specs.declared.JobReport.{JobReport}
 use Rattle.numbers.proofs.JobReport as R
 use Rattle.numbers.proofs.JobReport.Laws as R′
+use Rattle.norakkeun.proofs.Reading.{looks-into}
 use Rattle.norakkeun.proofs.calls.norakkeun_report as by-value
 use Rattle.norakkeun.proofs.calls.norakkeun_report.Met as by-value-met
 use Rattle.norakkeun.proofs.calls.norakkeun_report.Symbol as by-value-symbol
@@ -72,9 +73,7 @@ module _ {M : Type 1} (𝓤 : URA M) (H : Heap 𝓤) (A : Atoms 𝓤) (W : Given
         alloc1 ! (λ l₀. alloc1 ! (λ l₁. alloc1 ! (λ l₂. alloc1 ! (λ l₃. alloc0 ! $ params1 ! $
         pass1 ! (init ! 4 refl (tt, tt)) $ pass1 ! (init ! 2 refl (tt, record { fits = is-j .1 })) $ pass0 ! $
         move ! (8 ∷ 9 ∷ []) $
-        looks ! tt T.the-row (Is T.the-row) (shows 𝓤 H A T.the-row) (λ t. T′.lowered t ∷ []) (T′.lowers .val-is) (LL.copy T.the-type T′.the-copy 𝓤 H A W) h b o (λ q′ vs.
-        spelt ! T.the-row (Is T.the-row) (shows 𝓤 H A T.the-row) (λ t. T′.lowered t ∷ []) (T′.lowers .val-is) q′ h vs b o $
-        move ! (1 ∷ []) $ peeks ! T.the-row (Is T.the-row) (shows 𝓤 H A T.the-row) h (T′.lowered h ∷ []) (λ is-h. move ! (1 ∷ 0 ∷ []) $
+        looks-into ! tt h b o (λ q′ is-h.
         -- [a share of the table's cell; what a table owns; the open borrow; the shared borrow; room for _3; …; _2; …; _1; …; room for _0; …; res; …]
         assigns ! (of-opd ! (load ! (from ! (hop ! (look ! 8 refl) (stop !))) (look-raw ! 0 refl))) (from ! (stop !)) (init ! 4 refl (LL.lawful T.the-type T′.the-laws 𝓤 H A W .typed h (T′.lowered h ∷ []) is-h .0)) $
         shuts ! tt T.the-row q′ h (T′.lowered h ∷ []) b o $
@@ -87,7 +86,7 @@ module _ {M : Type 1} (𝓤 : URA M) (H : Heap 𝓤) (A : Atoms 𝓤) (W : Given
         land ! (from ! (stop !)) (init ! 10 refl (LL.lawful R.the-type R′.the-laws 𝓤 H A W .typed r _ is-r .0)) $
         returns ! (look ! 10 refl) $ forget ! 4 refl $ forget ! 6 refl $ forget ! 8 refl $ forget ! 10 refl $
         move ! (10 ∷ 11 ∷ []) $ free1 ! $ move ! (8 ∷ 9 ∷ []) $ free1 ! $ move ! (6 ∷ 7 ∷ []) $ free1 ! $ move ! (4 ∷ 5 ∷ []) $ free1 ! $ free0 ! $
-        keep ! (0 ∷ 2 ∷ 4 ∷ 3 ∷ []) $ by ! (exits r u told)))))))))
+        keep ! (0 ∷ 2 ∷ 4 ∷ 3 ∷ []) $ by ! (exits r u told))))))))
 
 pub norakkeun-report-of-spec : {M : Type 1} → statement M
 unfolding code.routine tablesOf
