@@ -2,17 +2,18 @@
 // by value of the same name does.
 ghost use mathlib.Core.Path.{_≡_};
 ghost use lib.ListN.{length};
-ghost use Rattle.event.specs.declared.events.Event.the-variants.{Ask, Beat, Open, Release};
+ghost use Rattle.event.specs.declared.events.Event.the-variants.{Ask, Beat, Complete, GiveUp, Open, Release};
 ghost use Rattle.event.specs.Limits.{jobs};
 ghost use Rattle.arbiter.specs.Meaning.{overdue, overdueList, report};
 ghost use Rattle.numbers.specs.Numbers.{lateInNumbers, reportInNumbers};
-ghost use Rattle.in_place.specs.Promises.{InPlace};
+ghost use Rattle.in_place.specs.Promises.{InPlace, InPlaceInto};
 use crate::calls::norakkeun_overdue;
 use crate::calls::norakkeun_report;
 use arbiter::Table;
 use event::Event;
 use event::Tick;
 use in_place::carry;
+use in_place::carry_waking;
 use numbers::EventAnswer;
 use numbers::JobReport;
 use numbers::LateJobs;
@@ -57,6 +58,35 @@ pub extern "C" fn norakkeun_release_in(
     ensures { λ r. ⌜ InPlace jobs (now (table .entry)) (Release job tick set) r (now (table .exit)) ⌝ }
 {
     carry(table, Event::Release { job, tick, set })
+}
+
+// The row becomes idle; the woken jobs are written to the lent list in order of turn.
+#[no_mangle]
+pub extern "C" fn norakkeun_complete_in(
+    table: &mut Table,
+    job: u32,
+    tick: Tick,
+    woken: &mut [u8],
+) -> EventAnswer
+    ensures { λ r. ⌜ InPlaceInto (now (table .entry)) (Complete job tick) (now (woken .entry)) r (now (table .exit))
+        (now (woken .exit)) ⌝ }
+{
+    carry_waking(table, Event::Complete { job, tick }, woken)
+}
+
+// The members leave the held and the declared set for good; the woken jobs are written to the lent list in order of turn.
+#[no_mangle]
+pub extern "C" fn norakkeun_give_up_in(
+    table: &mut Table,
+    job: u32,
+    tick: Tick,
+    set: u64,
+    woken: &mut [u8],
+) -> EventAnswer
+    ensures { λ r. ⌜ InPlaceInto (now (table .entry)) (GiveUp job tick set) (now (woken .entry)) r (now (table .exit))
+        (now (woken .exit)) ⌝ }
+{
+    carry_waking(table, Event::GiveUp { job, tick, set }, woken)
 }
 
 // What is told of a job's request.

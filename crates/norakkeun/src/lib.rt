@@ -20,6 +20,8 @@ pub use files::norakkeun_load;
 pub use files::norakkeun_save;
 pub use lent::norakkeun_ask_in;
 pub use lent::norakkeun_beat_in;
+pub use lent::norakkeun_complete_in;
+pub use lent::norakkeun_give_up_in;
 pub use lent::norakkeun_open_in;
 pub use lent::norakkeun_overdue_of;
 pub use lent::norakkeun_release_in;
