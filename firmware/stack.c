@@ -1,9 +1,9 @@
 /* How much stack the calls take, and how large the structs are.
  *
  * Each call is made on a stack of its own that was filled with a pattern before. What is printed is how far down the
- * pattern is gone: from the frame of a function that makes the one call, with its copy of the table and its answer, to
- * the lowest byte that was written. All 64 rows are live. Each call was made before, so that the C library's functions
- * are found already. */
+ * pattern is gone: from the frame of a function that makes the one call, with its copy of the table if it is by value and
+ * its answer, to the lowest byte that was written. In place the table is no part of that: it lies where it always does. All
+ * 64 rows are live. Each call was made before, so that the C library's functions are found already. */
 #define _XOPEN_SOURCE 700
 #include <stdint.h>
 #include <stdio.h>
@@ -57,6 +57,28 @@ static void save(void) { refusal = norakkeun_save(table, file, sizeof file).refu
 /* Of the file that was saved before. */
 static void load(void) { refusal = norakkeun_load(file, sizeof file).refusal; }
 
+static void beat_in(void) { refusal = norakkeun_beat_in(&table, (norakkeun_tick){100}).refusal; }
+
+static void open_in(void) { refusal = norakkeun_open_in(&table, 63, (norakkeun_tick){100}, 1).refusal; }
+
+static void ask_in(void) { refusal = norakkeun_ask_in(&table, 1, (norakkeun_tick){100}, 1).refusal; }
+
+static void release_in(void) { refusal = norakkeun_release_in(&table, 0, (norakkeun_tick){100}, 1).refusal; }
+
+static void complete_in(void)
+{
+    refusal = norakkeun_complete_in(&table, 0, (norakkeun_tick){100}, list, sizeof list).refusal;
+}
+
+static void give_up_in(void)
+{
+    refusal = norakkeun_give_up_in(&table, 0, (norakkeun_tick){100}, 1, list, sizeof list).refusal;
+}
+
+static void report_of(void) { refusal = norakkeun_report_of(&table, 63).refusal; }
+
+static void overdue_of(void) { refusal = norakkeun_overdue_of(&table, (norakkeun_tick){100}, list, sizeof list).refusal; }
+
 /* ---- the measurement */
 
 /* Runs the function on the painted stack; gives the number of bytes from the stack's top to the lowest one written. */
@@ -81,12 +103,16 @@ static size_t depth(void (*function)(void))
     return sizeof stack - i;
 }
 
+/* The table is put back, for a call in place changes it. */
 static void measure(const char *name, void (*function)(void))
 {
+    const norakkeun_table before = table;
     size_t bytes;
 
     function();
+    table = before;
     bytes = depth(function) - depth(nothing);
+    table = before;
     if (refusal != NORAKKEUN_ACCEPTED) {
         fprintf(stderr, "stack: %s was refused as %u\n", name, (unsigned)refusal);
         exit(1);
@@ -111,12 +137,14 @@ int main(void)
 {
     printf("size table %zu\n", sizeof(norakkeun_table));
     printf("size told %zu\n", sizeof(norakkeun_told));
+    printf("size answer %zu\n", sizeof(norakkeun_answer));
     printf("size job_report %zu\n", sizeof(norakkeun_job_report));
     printf("size late_jobs %zu\n", sizeof(norakkeun_late_jobs));
     printf("size saved %zu\n", sizeof(norakkeun_saved));
     measure("start", start);
     fill(NORAKKEUN_JOBS - 1);
     measure("open", open);
+    measure("open_in", open_in);
     fill(NORAKKEUN_JOBS);
     measure("beat", beat);
     measure("ask", ask);
@@ -128,5 +156,12 @@ int main(void)
     measure("record_open", record_open);
     measure("save", save);
     measure("load", load);
+    measure("beat_in", beat_in);
+    measure("ask_in", ask_in);
+    measure("release_in", release_in);
+    measure("complete_in", complete_in);
+    measure("give_up_in", give_up_in);
+    measure("report_of", report_of);
+    measure("overdue_of", overdue_of);
     return 0;
 }
