@@ -1,22 +1,23 @@
-# Writes docs/bench.md from what bench/run counted (what is around a call, the calls, service files, the replays) and from
-# bench/before.tsv, what the calls and the replays took when every call looked at all rows for each row (commit fe5bd26).
+# Writes docs/bench.md from what bench/run counted (what is around a call, the calls, those in place, service files, the
+# replays) and from bench/before.tsv, what the calls and the replays took when every call looked at all rows for each row (commit fe5bd26).
 file == 1 { alone[$1] = $2; listed[$1] = $3 }
 file == 2 { n[$1, $2, $3] = $4; p[$1, $2, $3] = $5; t[$1, $2, $3] = $6 }
-file == 3 {
+file == 3 { in_place[$1, $2] = $3; plain_in_place[$1, $2] = $4 }
+file == 4 {
     files++
     file_live[files] = $1
     file_call[files] = $2
     for (i = 3; i <= 5; i++) of_file[files, i] = $i
 }
-file == 4 {
+file == 5 {
     replays++
     name[replays] = $1
     live[replays] = $2
     for (i = 3; i <= 5; i++) replay[replays, i] = $i
 }
 
-file == 5 && $1 == "before" { was[$2, $3] = $4; was_called[$3] }
-file == 5 && $1 == "replayed" { replayed[$3, $2] = $4 }
+file == 6 && $1 == "before" { was[$2, $3] = $4; was_called[$3] }
+file == 6 && $1 == "replayed" { replayed[$3, $2] = $4 }
 
 function row(order, size, call, shown) {
     if ((order, size, call) in n)
@@ -68,6 +69,41 @@ function cell(call, size) {
     return sprintf(" %s (%s) |", big(n["rising", size, call]), ratio(n["rising", size, call], p["rising", size, call]))
 }
 
+function in_place_table(i, s) {
+    print "\n| Call | Live rows | by value | in place | plain in place | in place less plain |"
+    print "|---|---|---|---|---|---|"
+    split("64 8 1", size, " ")
+    for (s = 1; s <= 3; s++)
+        for (i = 1; i <= call_count; i++) in_place_row(size[s], calls[i])
+}
+
+function in_place_row(size, call) {
+    if (!((size, call) in in_place)) return
+    printf "| %s | %s | %s | %s |", name_of(call), size, big(n["rising", size, call]), big(in_place[size, call])
+    printf " %s | %s |\n", big(plain_in_place[size, call]), less(in_place[size, call], plain_in_place[size, call])
+}
+
+function less(a, b) { return a < b ? "-" big(b - a) : big(a - b) }
+
+# For which calls the difference is at most so many, said in words.
+function within(most, s) {
+    printf "\nIn place Norakkeun takes at most %s instructions more than the plain program:", most
+    split("64 8 1", size, " ")
+    for (s = 1; s <= 3; s++)
+        printf "%s with %s live row%s for %s", s == 1 ? "" : ";", size[s], size[s] == 1 ? "" : "s", calls_within(most, size[s])
+    print "."
+}
+
+function calls_within(most, size, i, all, few, line) {
+    for (i = 1; i <= call_count; i++) {
+        if (!((size, calls[i]) in in_place)) continue
+        all++
+        if (in_place[size, calls[i]] - plain_in_place[size, calls[i]] > most) continue
+        line = line (few++ ? "; " : "") name_of(calls[i])
+    }
+    return few == all ? "every call" : few == 0 ? "no call" : few " of " all " calls (" line ")"
+}
+
 function file_table(i) {
     head("Call")
     for (i = 1; i <= files; i++)
@@ -114,6 +150,17 @@ function buffers() {
     print "In the figures of the replay below it is included, but for what is cleared at the start."
 }
 
+function in_place_part() {
+    print "\n## Each call, in place and by value\n"
+    printf "%s", "Instructions of one accepted call on the tables above, turns in order of job. In place the caller hands in a pointer "
+    printf "%s", "to its table; an event changes it there, and a question reads it. Norakkeun and the plain program, with its soundness "
+    printf "%s", "test, are called the same way: from C, by `bench/in_place.c`, each through the archive that it makes. Both are "
+    printf "%s", "counted from where the call is entered to where it returns, nothing is taken off, and both said and left the same. "
+    print "By value is Norakkeun's figure from above; what its caller copies to hand the table in and take it back is not in it."
+    in_place_table()
+    within(300)
+}
+
 function files_part() {
     print "\n## Service files\n"
     printf "%s", "Instructions of one accepted save and of one accepted load (document 02, request 1) of the same tables, turns in "
@@ -145,6 +192,7 @@ END {
     buffers()
     print "\nThe same where the turns are in no order of job, so that the plain program has to sort:"
     table("mixed")
+    in_place_part()
     print "\n## How it grows with the live rows\n"
     print "Norakkeun's instructions, and how many times the plain program's they are, turns in order of job."
     growth()

@@ -1,8 +1,9 @@
 //! Service cases, each of which loads a file or saves a table. The counter leaves out what runs in this module.
 
 use crate::arbiter::Table;
+use crate::bytes::number;
 use crate::print::Out;
-use crate::{fill, lend, number, parse, TABLE};
+use crate::{fill, lend, parse, TABLE};
 use std::io;
 
 /// The first byte of a case.

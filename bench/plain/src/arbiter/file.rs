@@ -4,7 +4,7 @@
 //! shifts, and a field from two words.
 
 use super::{Line, Pass, Row, Said, Table, JOBS, TOP};
-use crate::{u32_at, u64_at};
+use crate::bytes::{u32_at, u64_at};
 
 const VERSION: u8 = 1;
 const HEAD: usize = 23;
