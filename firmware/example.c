@@ -4,14 +4,16 @@
  *
  * Each event is recorded before it is handed over, refused ones too: the replay refuses them alike. Standard output is
  * what bin/replay prints of RECORDING, and standard error has the answers to the questions. In the middle of the night a
- * spare drive takes over by a service file, which nobody notices. */
+ * spare drive takes over by a service file, which nobody notices; and a job that does not exist opens a request, which has
+ * no record and so no line. */
 #include <inttypes.h>
+#include <stdbool.h>
 #include <stdio.h>
 #include <stdlib.h>
 
 #include "norakkeun.h"
 
-enum { CURRENT_CONTROL = 3, BRAKE = 7, DISPLAY = 12, TELEMETRY = 20 };
+enum { CURRENT_CONTROL = 3, BRAKE = 7, DISPLAY = 12, TELEMETRY = 20, NO_SUCH_JOB = 64 };
 enum { ENCODER_BUS = 1, GATE_DRIVER = 2, PARAMETER_MEMORY = 4 }; /* a set is their sum */
 enum { TOKENS = 2, RESOURCES = 3, LIMIT_MS = 50 };
 
@@ -30,18 +32,23 @@ typedef struct message {
 static norakkeun_table table;
 
 static FILE *recording;
-static unsigned long number; /* of the last record */
+static unsigned long number; /* of the last record: counted are records, not calls, as in the listing */
 
-static void keep(const uint8_t *record, uint32_t refusal)
+/* Whether there is a record now. Only a job above 63, or a start whose numbers do not fit, has none; these change no table. */
+static bool keep(const uint8_t *record, uint32_t refusal)
 {
-    /* Only a job above 63, or a start whose numbers do not fit, has no record; these change no table. */
-    if (refusal == NORAKKEUN_ACCEPTED && fwrite(record, NORAKKEUN_RECORD, 1, recording) != 1) {
+    if (refusal != NORAKKEUN_ACCEPTED) {
+        return false;
+    }
+    if (fwrite(record, NORAKKEUN_RECORD, 1, recording) != 1) {
         perror("the recording");
         exit(2);
     }
+    number++;
+    return true;
 }
 
-static void record_event(message m)
+static bool record_event(message m)
 {
     uint8_t record[NORAKKEUN_RECORD] = {0};
     uint32_t refusal;
@@ -51,24 +58,23 @@ static void record_event(message m)
     case OPEN: refusal = norakkeun_record_open(m.job, m.tick, m.set, record, sizeof record); break;
     case ASK: refusal = norakkeun_record_ask(m.job, m.tick, m.set, record, sizeof record); break;
     case RELEASE: refusal = norakkeun_record_release(m.job, m.tick, m.set, record, sizeof record); break;
-    case COMPLETE: refusal = norakkeun_record_complete(m.job, m.tick, record, sizeof record); break;
-    default: return; /* only events are recorded */
+    default: refusal = norakkeun_record_complete(m.job, m.tick, record, sizeof record); break;
     }
-    keep(record, refusal);
+    return keep(record, refusal);
 }
 
-/* A line as the replay prints it. Firmware would let the woken jobs run here. */
-static void act_on(norakkeun_told told, const uint8_t *woken)
+/* A line as the replay prints it, with the number of its record. Firmware would let the woken jobs run here. */
+static void act_on(norakkeun_answer answer, const uint8_t *woken)
 {
     uint32_t i;
 
-    printf("%lu ", ++number);
-    if (told.refusal != NORAKKEUN_ACCEPTED) {
-        printf("no %" PRIu32 "\n", told.refusal);
+    printf("%lu ", number);
+    if (answer.refusal != NORAKKEUN_ACCEPTED) {
+        printf("no %" PRIu32 "\n", answer.refusal);
         return;
     }
-    printf(told.said == NORAKKEUN_WAIT ? "wait" : "ok");
-    for (i = 0; i < told.woken; i++) {
+    printf(answer.said == NORAKKEUN_WAIT ? "wait" : "ok");
+    for (i = 0; i < answer.woken; i++) {
         printf(" %u", woken[i]);
     }
     printf("\n");
@@ -77,7 +83,7 @@ static void act_on(norakkeun_told told, const uint8_t *woken)
 /* How a job's request stands. */
 static void tell_of(uint32_t job)
 {
-    norakkeun_job_report told = norakkeun_report(table, job);
+    norakkeun_job_report told = norakkeun_report_of(&table, job);
 
     if (told.refusal != NORAKKEUN_ACCEPTED) {
         fprintf(stderr, "no %" PRIu32 "\n", told.refusal);
@@ -91,7 +97,7 @@ static void tell_of(uint32_t job)
 static void watch(norakkeun_tick tick)
 {
     uint8_t late[NORAKKEUN_JOBS] = {0};
-    norakkeun_late_jobs told = norakkeun_overdue(table, tick, late, sizeof late);
+    norakkeun_late_jobs told = norakkeun_overdue_of(&table, tick, late, sizeof late);
     uint32_t i;
 
     if (told.refusal != NORAKKEUN_ACCEPTED) {
@@ -127,28 +133,36 @@ static void start(norakkeun_tick tick)
     keep(record, norakkeun_record_start(TOKENS, RESOURCES, tick, LIMIT_MS, record, sizeof record));
     told = norakkeun_start(TOKENS, RESOURCES, tick, LIMIT_MS);
     table = told.table;
-    act_on(told, NULL);
+    act_on((norakkeun_answer){told.refusal, told.said, told.woken}, NULL);
+}
+
+/* An event is recorded, handed over, and its answer acted on, in this order. */
+static void take_event(message m)
+{
+    uint8_t woken[NORAKKEUN_JOBS] = {0};
+    bool recorded = record_event(m);
+    norakkeun_answer answer;
+
+    switch (m.kind) {
+    case BEAT: answer = norakkeun_beat_in(&table, m.tick); break;
+    case OPEN: answer = norakkeun_open_in(&table, m.job, m.tick, m.set); break;
+    case ASK: answer = norakkeun_ask_in(&table, m.job, m.tick, m.set); break;
+    case RELEASE: answer = norakkeun_release_in(&table, m.job, m.tick, m.set); break;
+    default: answer = norakkeun_complete_in(&table, m.job, m.tick, woken, sizeof woken); break;
+    }
+    if (recorded) { /* what has no record was refused and has no line */
+        act_on(answer, woken);
+    }
 }
 
 static void take(message m)
 {
-    uint8_t woken[NORAKKEUN_JOBS] = {0};
-    norakkeun_told told;
-
-    record_event(m);
     switch (m.kind) {
-    case BEAT: told = norakkeun_beat(table, m.tick); break;
-    case OPEN: told = norakkeun_open(table, m.job, m.tick, m.set); break;
-    case ASK: told = norakkeun_ask(table, m.job, m.tick, m.set); break;
-    case RELEASE: told = norakkeun_release(table, m.job, m.tick, m.set); break;
-    case COMPLETE: told = norakkeun_complete(table, m.job, m.tick, woken, sizeof woken); break;
-    case REPORT: tell_of(m.job); return;
-    case OVERDUE: watch(m.tick); return;
-    case TAKE_OVER: take_over(); return;
-    default: return;
+    case REPORT: tell_of(m.job); break;
+    case OVERDUE: watch(m.tick); break;
+    case TAKE_OVER: take_over(); break;
+    default: take_event(m); break;
     }
-    table = told.table; /* after a refusal, the table as it was */
-    act_on(told, woken);
 }
 
 /* The last line of a listing: live requests, tokens in use. */
@@ -181,6 +195,7 @@ static const message night[] = {
     {TAKE_OVER, 0, {0}, 0}, /* with the brake still waiting */
     {COMPLETE, CURRENT_CONTROL, {20}, 0},
     {ASK, DISPLAY, {21}, ENCODER_BUS},
+    {OPEN, NO_SUCH_JOB, {30}, ENCODER_BUS}, /* refused as 4, and without a record: the next one has number 13 */
     {RELEASE, BRAKE, {40}, ENCODER_BUS},
     {COMPLETE, BRAKE, {60}, 0},
     {ASK, TELEMETRY, {61}, GATE_DRIVER},
@@ -193,6 +208,10 @@ int main(int argc, char **argv)
 {
     size_t i;
 
+    if (norakkeun_version() != NORAKKEUN_VERSION) {
+        fprintf(stderr, "example: the archive has version %" PRIu32 ", its header %d\n", norakkeun_version(), NORAKKEUN_VERSION);
+        return EXIT_FAILURE;
+    }
     recording = argc == 2 ? fopen(argv[1], "wb") : NULL;
     if (recording == NULL) {
         fprintf(stderr, "usage: example RECORDING\n");

@@ -9,6 +9,7 @@
 
 use std::fs::File;
 use std::io::{self, Write};
+use std::process::ExitCode;
 
 /// The declarations of `norakkeun.h` in Rust.
 mod raw {
@@ -50,6 +51,13 @@ mod raw {
     }
 
     #[repr(C)]
+    pub struct Answer {
+        pub refusal: u32,
+        pub said: u32,
+        pub woken: u32,
+    }
+
+    #[repr(C)]
     #[derive(Clone, Copy)]
     pub struct Report {
         pub turn: Turn,
@@ -80,14 +88,15 @@ mod raw {
     #[rustfmt::skip]
     #[link(name = "norakkeun", kind = "static")]
     extern "C" {
+        pub fn norakkeun_version() -> u32;
         pub fn norakkeun_start(tokens: u32, resources: u32, tick: Tick, limit: u32) -> Told;
-        pub fn norakkeun_beat(table: Table, tick: Tick) -> Told;
-        pub fn norakkeun_open(table: Table, job: u32, tick: Tick, set: u64) -> Told;
-        pub fn norakkeun_ask(table: Table, job: u32, tick: Tick, set: u64) -> Told;
-        pub fn norakkeun_release(table: Table, job: u32, tick: Tick, set: u64) -> Told;
-        pub fn norakkeun_complete(table: Table, job: u32, tick: Tick, woken: *mut u8, length: usize) -> Told;
-        pub fn norakkeun_report(table: Table, job: u32) -> JobReport;
-        pub fn norakkeun_overdue(table: Table, tick: Tick, late: *mut u8, length: usize) -> LateJobs;
+        pub fn norakkeun_beat_in(table: *mut Table, tick: Tick) -> Answer;
+        pub fn norakkeun_open_in(table: *mut Table, job: u32, tick: Tick, set: u64) -> Answer;
+        pub fn norakkeun_ask_in(table: *mut Table, job: u32, tick: Tick, set: u64) -> Answer;
+        pub fn norakkeun_release_in(table: *mut Table, job: u32, tick: Tick, set: u64) -> Answer;
+        pub fn norakkeun_complete_in(table: *mut Table, job: u32, tick: Tick, woken: *mut u8, length: usize) -> Answer;
+        pub fn norakkeun_report_of(table: *const Table, job: u32) -> JobReport;
+        pub fn norakkeun_overdue_of(table: *const Table, tick: Tick, late: *mut u8, length: usize) -> LateJobs;
         pub fn norakkeun_record_start(
             tokens: u32, resources: u32, tick: Tick, limit: u32, room: *mut u8, length: usize,
         ) -> u32;
@@ -101,7 +110,10 @@ mod raw {
     }
 }
 
-use raw::{Report, Table, Tick, Told};
+use raw::{Answer, Report, Table, Tick};
+
+/// Of the archive that these declarations belong to.
+const VERSION: u32 = 1;
 
 const JOBS: usize = 64;
 const RECORD: usize = 14;
@@ -115,6 +127,7 @@ const CURRENT_CONTROL: u32 = 3;
 const BRAKE: u32 = 7;
 const DISPLAY: u32 = 12;
 const TELEMETRY: u32 = 20;
+const NO_SUCH_JOB: u32 = 64;
 
 const ENCODER_BUS: u64 = 1;
 const GATE_DRIVER: u64 = 2;
@@ -202,34 +215,34 @@ impl Arbiter {
 
     /// The answer; after a refusal the table is as it was.
     fn take(&mut self, event: Event) -> Result<Said, u32> {
-        let table = self.table;
+        let table = &mut self.table;
         let mut list = [0; JOBS];
-        // SAFETY: the list is lent for the call alone, with its own length; any table may be handed in.
-        let told = unsafe {
+        let woken = list.as_mut_ptr();
+        // SAFETY: the table and the list, with its own length, are lent for the call alone and lie apart; any table will do.
+        let answer = unsafe {
             match event {
-                Event::Beat(tick) => raw::norakkeun_beat(table, tick),
-                Event::Open(job, tick, set) => raw::norakkeun_open(table, job, tick, set),
-                Event::Ask(job, tick, set) => raw::norakkeun_ask(table, job, tick, set),
-                Event::Release(job, tick, set) => raw::norakkeun_release(table, job, tick, set),
+                Event::Beat(tick) => raw::norakkeun_beat_in(table, tick),
+                Event::Open(job, tick, set) => raw::norakkeun_open_in(table, job, tick, set),
+                Event::Ask(job, tick, set) => raw::norakkeun_ask_in(table, job, tick, set),
+                Event::Release(job, tick, set) => raw::norakkeun_release_in(table, job, tick, set),
                 Event::Complete(job, tick) => {
-                    raw::norakkeun_complete(table, job, tick, list.as_mut_ptr(), JOBS)
+                    raw::norakkeun_complete_in(table, job, tick, woken, JOBS)
                 }
             }
         };
-        self.table = told.table;
-        said(&told, list)
+        said(&answer, list)
     }
 
     fn report(&self, job: u32) -> Result<Report, u32> {
-        // SAFETY: nothing is lent, and any table may be handed in.
-        let told = unsafe { raw::norakkeun_report(self.table, job) };
+        // SAFETY: the table is lent for the call alone, and any table will do.
+        let told = unsafe { raw::norakkeun_report_of(&self.table, job) };
         unless_refused(told.refusal, told.report)
     }
 
     fn overdue(&self, tick: Tick) -> Result<Jobs, u32> {
         let mut list = [0; JOBS];
-        // SAFETY: the list is lent for the call alone, with its own length; any table may be handed in.
-        let told = unsafe { raw::norakkeun_overdue(self.table, tick, list.as_mut_ptr(), JOBS) };
+        // SAFETY: the table and the list, with its own length, are lent for the call alone; any table will do.
+        let told = unsafe { raw::norakkeun_overdue_of(&self.table, tick, list.as_mut_ptr(), JOBS) };
         let count = told.count as usize;
         unless_refused(told.refusal, Jobs { list, count })
     }
@@ -251,15 +264,15 @@ impl Arbiter {
     }
 }
 
-fn said(told: &Told, list: [u8; JOBS]) -> Result<Said, u32> {
-    match told.said {
-        0 => Err(told.refusal),
+fn said(answer: &Answer, list: [u8; JOBS]) -> Result<Said, u32> {
+    match answer.said {
+        0 => Err(answer.refusal),
         1 => Ok(Said::Token),
         2 => Ok(Said::Granted),
         3 => Ok(Said::Wait),
         4 => Ok(Said::Done),
         _ => {
-            let count = told.woken as usize;
+            let count = answer.woken as usize;
             Ok(Said::Woke(Jobs { list, count }))
         }
     }
@@ -278,7 +291,7 @@ const START: Tick = Tick(4291500000);
 
 /// What came in that night. A drive would take it from a queue.
 #[rustfmt::skip]
-fn night() -> [Message; 23] {
+fn night() -> [Message; 24] {
     use Event::{Ask, Beat, Complete, Open, Release};
     use Message::{Event as E, Overdue, Report, TakeOver};
     [
@@ -299,6 +312,7 @@ fn night() -> [Message; 23] {
         TakeOver, // with the brake still waiting
         E(Complete(CURRENT_CONTROL, Tick(20))),
         E(Ask(DISPLAY, Tick(21), ENCODER_BUS)),
+        E(Open(NO_SUCH_JOB, Tick(30), ENCODER_BUS)), // refused as 4, and without a record: the next one has number 13
         E(Release(BRAKE, Tick(40), ENCODER_BUS)),
         E(Complete(BRAKE, Tick(60))),
         E(Ask(TELEMETRY, Tick(61), GATE_DRIVER)),
@@ -342,22 +356,38 @@ fn late(answer: Result<Jobs, u32>) -> String {
     }
 }
 
-/// Only a job above 63, or a start whose numbers do not fit, has no record; these change no table.
-fn keep(recording: &mut File, record: Result<[u8; RECORD], u32>) -> io::Result<()> {
-    record.map_or(Ok(()), |bytes| recording.write_all(&bytes))
+/// A recording, and how many records it has: counted are records, not calls, as in the listing.
+struct Recording {
+    file: File,
+    number: u32,
 }
 
-fn run(recording: &mut File) -> io::Result<()> {
-    keep(recording, record_start(START))?;
+impl Recording {
+    /// The number of the record. Only a job above 63, or a start whose numbers do not fit, has none; these change no table.
+    fn keep(&mut self, record: Result<[u8; RECORD], u32>) -> io::Result<Option<u32>> {
+        let Ok(bytes) = record else {
+            return Ok(None);
+        };
+        self.file.write_all(&bytes)?;
+        self.number += 1;
+        Ok(Some(self.number))
+    }
+}
+
+fn run(file: File) -> io::Result<()> {
+    let mut recording = Recording { file, number: 0 };
+    recording.keep(record_start(START))?;
     let mut arbiter = Arbiter::start(START).expect("the numbers of the start are in range");
-    let mut number = 1;
-    println!("{number} ok");
+    println!("{} ok", recording.number);
     for message in night() {
         match message {
+            // Recorded, handed over, and the answer acted on, in this order. What has no record was refused and has no line.
             Message::Event(event) => {
-                keep(recording, record(event))?;
-                number += 1;
-                println!("{number} {}", listed(&arbiter.take(event)));
+                let number = recording.keep(record(event))?;
+                let answer = arbiter.take(event);
+                if let Some(number) = number {
+                    println!("{number} {}", listed(&answer));
+                }
             }
             Message::Report(job) => eprintln!("{}", reported(arbiter.report(job))),
             Message::Overdue(tick) => eprintln!("{}", late(arbiter.overdue(tick))),
@@ -377,7 +407,22 @@ fn run(recording: &mut File) -> io::Result<()> {
     Ok(())
 }
 
-fn main() -> io::Result<()> {
-    let path = std::env::args().nth(1).expect("usage: example RECORDING");
-    run(&mut File::create(path)?)
+fn main() -> ExitCode {
+    // SAFETY: nothing is handed over.
+    let version = unsafe { raw::norakkeun_version() };
+    if version != VERSION {
+        eprintln!("example: the archive has version {version}, these declarations {VERSION}");
+        return ExitCode::FAILURE;
+    }
+    let Some(path) = std::env::args().nth(1) else {
+        eprintln!("usage: example RECORDING");
+        return ExitCode::from(2);
+    };
+    match File::create(path).and_then(run) {
+        Ok(()) => ExitCode::SUCCESS,
+        Err(error) => {
+            eprintln!("the recording: {error}");
+            ExitCode::from(2)
+        }
+    }
 }
