@@ -34,7 +34,8 @@ static norakkeun_table table;
 static FILE *recording;
 static unsigned long number; /* of the last record: counted are records, not calls, as in the listing */
 
-/* Whether there is a record now. Only a job above 63, or a start whose numbers do not fit, has none; these change no table. */
+/* Whether there is a record now. Only a job above 63, or a start whose numbers do not fit, has none; these change no
+ * table. */
 static bool keep(const uint8_t *record, uint32_t refusal)
 {
     if (refusal != NORAKKEUN_ACCEPTED) {
@@ -209,7 +210,8 @@ int main(int argc, char **argv)
     size_t i;
 
     if (norakkeun_version() != NORAKKEUN_VERSION) {
-        fprintf(stderr, "example: the archive has version %" PRIu32 ", its header %d\n", norakkeun_version(), NORAKKEUN_VERSION);
+        fprintf(stderr, "example: the archive has version %" PRIu32 ", its header %d\n", norakkeun_version(),
+                NORAKKEUN_VERSION);
         return EXIT_FAILURE;
     }
     recording = argc == 2 ? fopen(argv[1], "wb") : NULL;

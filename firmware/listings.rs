@@ -17,11 +17,11 @@ fn both_at_once(count: u32) {
     std::thread::scope(|threads| {
         threads.spawn(move || {
             for number in 0..count {
-                let mut write = |slot: &mut Record| {
+                let write = |slot: &mut Record| {
                     *slot = made(number);
                     true
                 };
-                while callers.record(0, &mut write).is_none() {
+                while callers.record(0, write).is_none() {
                     std::thread::yield_now();
                 }
             }
