@@ -106,11 +106,14 @@ void flash_begin(const uint8_t *file, size_t length)
 
 /* ---- what is tried */
 
-/* The table's bytes at some moment, with those between its fields. */
+/* The table's bytes at some moment, with those between its fields, which get a value that no call would give them. */
 static uint8_t snapshot[sizeof(norakkeun_table)];
 
 static void note_table(void)
 {
+    enum { FIELD_ENDS = offsetof(norakkeun_table, limit) + sizeof(uint32_t), NEXT_BEGINS = offsetof(norakkeun_table, time) };
+
+    memset((uint8_t *)&table + FIELD_ENDS, 0xa5, NEXT_BEGINS - FIELD_ENDS);
     memcpy(snapshot, &table, sizeof table);
 }
 
@@ -199,7 +202,8 @@ static void whole_recording(const char *path)
     MUST(count > 1 && fclose(file) == 0);
     for (i = 0; i < count; i++) {
         again(wanted[i]);
-        MUST(hand_in(OPEN, NORAKKEUN_JOBS, 1, false).refusal == NORAKKEUN_NO_SUCH_JOB);
+        note_table();
+        MUST(hand_in(OPEN, NORAKKEUN_JOBS, 1, false).refusal == NORAKKEUN_NO_SUCH_JOB && as_noted());
         if (i % 3 == 0) {
             flash_task();
         }
