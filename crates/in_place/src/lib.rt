@@ -3,9 +3,5 @@ mod looking;
 mod putting;
 mod waking;
 
-pub use looking::bounds_in;
-pub use looking::survey_in;
-pub use putting::Put;
 pub use putting::carry;
-pub use waking::Sweep;
 pub use waking::carry_waking;
