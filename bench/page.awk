@@ -1,5 +1,5 @@
-# Writes docs/bench.md from what bench/run counted (what is around a call, the calls, those in place, service files, the
-# replays) and from bench/before.tsv, what the calls and the replays took when every call looked at all rows for each row (commit fe5bd26).
+# Writes docs/bench.md from what bench/run counted (what is around a call, the calls, those in place, the dearest of them,
+# service files, the replays) and from bench/before.tsv, what the calls and the replays took when every call looked at all rows for each row (commit fe5bd26).
 file == 1 { alone[$1] = $2; listed[$1] = $3 }
 file == 2 { n[$1, $2, $3] = $4; p[$1, $2, $3] = $5; t[$1, $2, $3] = $6 }
 file == 3 { in_place[$1, $2] = $3; plain_in_place[$1, $2] = $4 }
@@ -18,6 +18,7 @@ file == 5 {
 
 file == 6 && $1 == "before" { was[$2, $3] = $4; was_called[$3] }
 file == 6 && $1 == "replayed" { replayed[$3, $2] = $4 }
+file == 7 { masked[$1] = $2 }
 
 function row(order, size, call, shown) {
     if ((order, size, call) in n)
@@ -161,6 +162,18 @@ function in_place_part() {
     within(300)
 }
 
+function masked_part(i) {
+    print "\n## The dearest call in place\n"
+    printf "%s", "What a caller masks, or locks, around a call is at most the dearest call of the event: all 64 rows live, 64 tokens, "
+    printf "%s", "turns that fall with the job, so that each job is put in line before all others, and a completion or a give up "
+    print "that lets 63 jobs go on at once (`bench/masked.c`). A refused event looks at as much as an accepted one."
+    print "\n| Event | Instructions |"
+    print "|---|---|"
+    split("beat open refused release complete give-up record", event, " ")
+    for (i = 1; i <= 7; i++)
+        printf "| %s | %s |\n", event[i] == "refused" ? "ask, refused" : event[i] == "record" ? "the writing of a record" : name_of(event[i]), big(masked[event[i]])
+}
+
 function files_part() {
     print "\n## Service files\n"
     printf "%s", "Instructions of one accepted save and of one accepted load (document 02, request 1) of the same tables, turns in "
@@ -193,6 +206,7 @@ END {
     print "\nThe same where the turns are in no order of job, so that the plain program has to sort:"
     table("mixed")
     in_place_part()
+    masked_part()
     print "\n## How it grows with the live rows\n"
     print "Norakkeun's instructions, and how many times the plain program's they are, turns in order of job."
     growth()

@@ -63,7 +63,7 @@ NF { last = $0 }
 /^rt: [a-z0-9_]+ proved, and its run FAILED/ { print "wrong", $0 }
 /^rt: must-fail / { edit_ends() }
 /^rt: (FAILED|in no crate)/ { print "wrong", $0 }
-/^(gate|evidence test|cost test|edits test|firmware|compare|compare-desk|compare-breaks): (FAILED|DIFFERENCE): / { print "wrong", $0 }
+/^(gate|evidence test|cost test|edits test|refusals test|page test|bundle test|firmware|compare|compare-desk|compare-breaks): (FAILED|DIFFERENCE): / { print "wrong", $0 }
 /^[0-9]+ passed, [0-9]+ failed$/ { print "verdict", $0 }
 
 /^evidence test: / { print "trial", after("evidence test: ") }

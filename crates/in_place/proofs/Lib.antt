@@ -1,5 +1,4 @@
 -- What the proofs of this crate share.
 pub mod Bounds
-pub mod Element
 pub mod Rows
 pub mod Walk

@@ -1,4 +1,4 @@
--- What the walks over a lent table share: the names they are written with, and steps that several of them take.
+-- The names that the walks over a lent table are written with.
 pub use mathlib.Core.Path.{_≡_, _∙_, ap, refl, subst, sym}
 pub use mathlib.Core.List.{List, [], _∷_}
 pub use Prim.Native.Nat.{_+_, _<_, _^_, ℕ}
@@ -24,9 +24,9 @@ pub use types.SemTy.{Body}
 pub use types.Tokens.{lent-back, lft-end, lft-new}
 pub use sound.WpLaws.{FmC, WpFn-mono, fmOf}
 pub use denote.Laws.{Is, shows}
-pub use denote.Lend.{LentShr, lends-shr}
+pub use denote.Lend.{lends-shr}
 pub use denote.Memory.{cellAt, mem, partAt}
-pub use denote.RattleType.{RattleType, owns}
+pub use denote.RattleType.{owns}
 pub use denote.Ref.{MutRef, RefT, ShrRef, mut-tells, ptr-vals, shr-copy, shr-tells}
 pub use denote.Signature.{plain}
 pub use denote.Slice.{MutSlice, Room, finally, mut-slice-tells, slice-vals, sliceVal}
@@ -42,27 +42,4 @@ pub use denote.Triple.Walked.{Stays, ends-at, gave-ref, gave-slice, goes-dropped
 pub use denote.Exit.{yes}
 pub use denote.Builtin.{RefOf, u32, u8, usize}
 pub use denote.Plain.{uint-makes, uint-tells, uint-vals}
-use types.Kit.{Goal, Item, Seq, Soaks, mean}
-use base.Logic.{emp∗, ex}
-
-module _ {M : Type 1} {𝓤 : URA M} {H : Heap 𝓤} {A : Atoms 𝓤} {K : Type 0} {W : Given 𝓤 H A} {Γ : List (Item 𝓤)} {G : Goal 𝓤 H} where
-  -- a call has answered u: its result r, what the callee says of r and leaves, and that u is the machine value of r
-  pub answers-leaving :
-      K → Soaks G → (R : RattleType) (back : Item 𝓤) (Says : R .Denot → SProp 𝓤) (left : Item 𝓤) (Said : R .Denot → Type 0) (u : Val) →
-      ((r : R .Denot) → ent 𝓤 (Says r) (sep 𝓤 (mean 𝓤 H A left) (fact 𝓤 (Said r)))) →
-      ((r : R .Denot) → Said r → Is R r (u ∷ []) → Seq K W (‵ (R .own r (u ∷ [])) ∷ back ∷ left ∷ Γ) G) →
-      Seq K W (raw (H .⇛ (ex 𝓤 (λ (r : R .Denot). sep 𝓤 (sep 𝓤 (mean 𝓤 H A back) (sem 𝓤 H A (R .own r (u ∷ [])))) (Says r)))) ∷ Γ) G
-  answers-leaving t soaks R back Says left Said u tells next =
-      use1 W (later (some (λ (r : R .Denot). (back ⊛ ‵ (R .own r (u ∷ []))) ⊛ raw (Says r)))) (id⊢ 𝓤 _) $ await t soaks $ pick t (λ r.
-      split t $ move t (1 ∷ []) $ use1 W (left ⊛ raw (fact 𝓤 (Said r))) (tells r) $ split t $ move t (1 ∷ []) $ heard t (Said r) (λ e.
-      move t (1 ∷ []) $ split t $ move t (1 ∷ []) $ peeks t R (Is R) (shows 𝓤 H A R) r (u ∷ []) (λ is. next r e is)))
-
-  -- the same of a callee that leaves nothing
-  pub answers :
-      K → Soaks G → (R : RattleType) (back : Item 𝓤) (Says : R .Denot → SProp 𝓤) (Said : R .Denot → Type 0) (u : Val) →
-      ((r : R .Denot) → ent 𝓤 (Says r) (fact 𝓤 (Said r))) →
-      ((r : R .Denot) → Said r → Is R r (u ∷ []) → Seq K W (‵ (R .own r (u ∷ [])) ∷ back ∷ Γ) G) →
-      Seq K W (raw (H .⇛ (ex 𝓤 (λ (r : R .Denot). sep 𝓤 (sep 𝓤 (mean 𝓤 H A back) (sem 𝓤 H A (R .own r (u ∷ [])))) (Says r)))) ∷ Γ) G
-  answers t soaks R back Says Said u tells next =
-      answers-leaving t soaks R back Says (‵ ftrue) Said u (λ r. via 𝓤 (fact 𝓤 (Said r)) (tells r) (emp∗ 𝓤 (fact 𝓤 (Said r))))
-      (λ r e is. move t (2 ∷ []) $ drop t $ next r e is)
+pub use Rattle.laws.proofs.Walking.{answers, answers-leaving, says-both}

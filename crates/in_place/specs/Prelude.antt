@@ -7,7 +7,7 @@ pub use native.Mathlib.Omega.{arith}
 pub use borrow.Author.Needs.{needs}
 pub use lib.ListN.{length, set}
 pub use Rattle.laws.specs.CaseLaws.{acceptance-tells}
-pub use Rattle.laws.specs.Cases.{Case, Outcome, fine, outcome, refused}
+pub use Rattle.laws.specs.Cases.{Case, fine, outcome, refused}
 pub use Rattle.event.specs.Events.{about, jobOf}
 pub use Rattle.event.specs.Limits.{jobs}
 pub use Rattle.event.specs.Refusals.{numberOf}
@@ -17,14 +17,13 @@ pub use Rattle.rows.specs.Line.{rowOf}
 pub use Rattle.rows.specs.declared.row.Row.{Row}
 pub use Rattle.soundness.specs.declared.Bounds.{Bounds}
 pub use Rattle.sweep.specs.Sweeping.{Acts, Onward, Settles}
-pub use Rattle.sweep.specs.declared.settling.Swept.{Swept}
 pub use Rattle.pass.specs.Pass.{Surveyed}
 pub use Rattle.pass.specs.declared.known.Survey.{Survey}
 pub use Rattle.decision.specs.Accepting.{saw-sound}
 pub use Rattle.decision.specs.Changes.{decided, refusalCases}
 pub use Rattle.decision.specs.declared.deciding.Change.{Change}
 pub use Rattle.arbiter.specs.Answering.{accepted-answers-into, refused-answers, refused-answers-into}
-pub use Rattle.arbiter.specs.Answers.{Said, saidOf}
+pub use Rattle.arbiter.specs.Answers.{saidOf}
 pub use Rattle.arbiter.specs.Bounded.{boundsOf}
 pub use Rattle.arbiter.specs.Carrying.{changes-answer, has-row, long-cases, may-act, quiet-cases, settling-does, short-cases, writes-onward}
 pub use Rattle.arbiter.specs.ChangeLaws.{changeOn, sound-by}
@@ -35,5 +34,5 @@ pub use Rattle.arbiter.specs.Sound.{rowIn, sound}
 pub use Rattle.arbiter.specs.declared.table.Next.{Next}
 pub use Rattle.arbiter.specs.declared.table.Table.{Table}
 pub use Rattle.arbiter.proofs.Surveys.{last-seen, line-seen}
-pub use Rattle.numbers.specs.Numbers.{answerInNumbers, eventTold}
+pub use Rattle.numbers.specs.Numbers.{answerInNumbers}
 pub use Rattle.numbers.specs.declared.EventAnswer.{EventAnswer}

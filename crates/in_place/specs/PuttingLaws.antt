@@ -1,5 +1,5 @@
 -- What is written in place is what the event means.
-use Rattle.in_place.specs.Prelude.{Answered, Bool, Change, EventAnswer, Event, List, Next, Outcome, Refusal, Row, Said, Table, _∙_, _≡_, about, answerInNumbers, ap, changeOn, changes-answer, cond, eventTold, false, fine, has-row, jobOf, jobs, moved, numberOf, outcome, quiet-cases, refl, refusalCases, refused, refused-answers, saidOf, seenIn, set, sym, true, true≢false, ℕ, Case}
+use Rattle.in_place.specs.Prelude.{Answered, Bool, Change, EventAnswer, Event, List, Refusal, Table, _∙_, _≡_, about, answerInNumbers, ap, changeOn, changes-answer, cond, false, fine, has-row, jobOf, jobs, moved, numberOf, outcome, quiet-cases, refl, refusalCases, refused, refused-answers, saidOf, seenIn, set, sym, true, true≢false, ℕ, Case}
 use Rattle.decision.specs.declared.answer.Answer.the-variants as Answers
 use Rattle.in_place.specs.Putting.{Puts, Rests}
 use Rattle.in_place.specs.declared.putting.Put.{Put}

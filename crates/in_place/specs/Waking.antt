@@ -18,11 +18,11 @@ use Rattle.pass.specs.Pass.{Surveyed}
 use Rattle.pass.specs.declared.known.Survey.{Survey}
 use Rattle.arbiter.specs.Answers.{saysWoke}
 use Rattle.arbiter.specs.Bounded.{boundsOf}
-use Rattle.arbiter.specs.Meaning.{listed, moved}
+use Rattle.arbiter.specs.Meaning.{moved}
 use Rattle.arbiter.specs.declared.table.Table.{Table}
 use Rattle.numbers.specs.Numbers.{answerInNumbers}
 use Rattle.numbers.specs.declared.EventAnswer.{EventAnswer}
-use Rattle.in_place.specs.Promises.{InPlace, InPlaceInto}
+use Rattle.in_place.specs.Promises.{InPlaceInto}
 use Rattle.in_place.specs.declared.waking.Sweep.{Sweep}
 
 -- what an event is told that woke so many

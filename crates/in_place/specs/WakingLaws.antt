@@ -1,5 +1,5 @@
 -- What an event that may wake others comes to in place is what the event means.
-use Rattle.in_place.specs.Prelude.{Acts, Bool, Bounds, Change, Event, EventAnswer, List, Next, Onward, Refusal, Settles, Survey, Surveyed, Swept, Table, _<_, _∙_, _≡_, _≤_, about, acceptance-tells, accepted-answers-into, answerInNumbers, ap, arith, boundsOf, changeOn, false, fine, jobOf, jobs, length, line-seen, long-cases, may-act, moved, numberOf, outcome, refl, refusalCases, refused, refused-answers-into, rowIn, rowOf, saw-sound, seenIn, settling-does, short-cases, sound, sound-by, subst, sym, true, true≢false, writes-onward, ℕ}
+use Rattle.in_place.specs.Prelude.{Acts, Bool, Bounds, Change, Event, EventAnswer, List, Next, Onward, Refusal, Settles, Survey, Surveyed, Table, _<_, _∙_, _≡_, _≤_, about, acceptance-tells, accepted-answers-into, answerInNumbers, ap, arith, boundsOf, changeOn, false, fine, jobOf, jobs, length, line-seen, long-cases, may-act, moved, numberOf, outcome, refl, refusalCases, refused, refused-answers-into, rowIn, rowOf, saw-sound, seenIn, settling-does, short-cases, sound, sound-by, subst, sym, true, true≢false, writes-onward, ℕ}
 use Rattle.arbiter.specs.Refusals.{cases}
 use Rattle.decision.specs.declared.answer.Answer.the-variants as Answers
 use Rattle.event.specs.declared.events.Event.the-variants.{Ask, Beat, Complete, GiveUp, Open, Release}

@@ -1,5 +1,4 @@
 -- Laws that only the proofs of functions use, here and where questions are asked along the line.
-mod Element
 mod Entries
 pub mod Jobs
 mod LentOn

@@ -6,7 +6,7 @@ use Rattle.sweep.specs.Sweeping.{Acts, Onward, Settles}
 use Rattle.sweep.specs.Written.{Written}
 use Rattle.sweep.specs.WrittenLaws.{written}
 use Rattle.sweep.specs.declared.settling.Passed.{Passed}
-use Rattle.sweep.proofs.Element.{array-set}
+use Rattle.laws.proofs.Element.{array-set}
 use Rattle.sweep.proofs.Entries.{entries, entry}
 use Rattle.sweep.proofs.Jobs.{either-past, job-below, job-here, line-fits}
 use Rattle.sweep.proofs.Midway.{Sweeps, sweeps-end, sweeps-passed, sweeps-start}

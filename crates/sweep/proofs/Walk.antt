@@ -19,7 +19,6 @@ use mir.Val.{bits}
 pub use base.Fml.{GName, Lft, Share, fat, fauth, fbor, flent, flft, fobor, fobs, fsep, ftrue}
 use base.Fml.{fdies, froom}
 pub use base.Logic.{SProp, emp, ent, exE, id⊢, sep, snd∗}
-use base.Logic.{assoc′, assoc∗, ex, via}
 pub use prog.Memory.{Memory}
 pub use prog.Routine.{Routine}
 pub use prog.Wp.{Calls, Env, Heap, Loops, Out, Tables, Wp, WpFn, afterBlock, afterSeq, atReturn}
@@ -29,7 +28,7 @@ pub use contract.Monad.{Fun, fact}
 pub use contract.Running.{givenOf, tables}
 unfoldable pub use contract.Running.{tablesOf}
 pub use types.Kit.{ !, Given, Item, Sq, _$_, _∵_, _⊛_, anyQ, atRet, await, by, done, drop, some as exists, feqI, feqL, fjoin, fjoin3, fpack, fpick, frame, fsplit, fsplit3, join, keep, later, move, pick, qed, raw, rewrite, runs, split, suffices, use0, use1, use2, use3, ‵, ⋆}
-use types.Kit.{Goal, Seq, Soaks, Step, mean, prop, step}
+use types.Kit.{Goal, Seq, Step, step}
 pub use types.Part.{agg, look-in, store-in, sub, whole}
 pub use types.Run.{Below, addr, again, alloc0, alloc1, and-then, assigns, assigns-last, bin, blocks, branches, enter, exec, first, fld, forget, free0, free1, from, hop, init, jumps, land, lit, load, look, loops, no-more, of-opd, params1, pass0, pass1, returns, skips, stop, store, un}
 use types.Run.{Reads}
@@ -64,26 +63,18 @@ pub use denote.Triple.Spec.{tripleOf}
 pub use denote.Triple.Statement.{Contract, Triple}
 pub use denote.Triple.Table.{cited, entered}
 pub use denote.Triple.Walked.{Stays, ends-at, gave-slice, goes-dropped, goes-gave-slice, goes-ref, goes-slice, says, stay-dropped, stay-ref, stay-slice, walk-meets, walkOf, walked}
-use denote.Triple.Walked.{Goes, Silent, Stay, needs}
+use denote.Triple.Walked.{Goes, Silent, Stay}
 pub use Rattle.sweep.specs.Passing.{noted, passedBy, setOut}
 pub use Rattle.sweep.specs.Prelude.{Bounds, Line, Lines, Row, Standing, bit, front, idle, jobs, live, rowOf, soundBy}
 pub use Rattle.sweep.specs.Sweeping.{Acts, Onward, Settles}
 pub use Rattle.sweep.specs.declared.settling.Swept.{Swept}
+pub use Rattle.laws.proofs.Walking.{answers, failed, held, needs-both, says-both}
 use denote.Struct.Laws as LL
 use Rattle.rows.proofs.row.Row as R
 use Rattle.rows.proofs.row.Row.Laws as R′
 use Rattle.rows.proofs.stand.Standing as S
 use Rattle.rows.proofs.stand.Standing.Laws as S′
 use Rattle.sweep.proofs.Turns.{AreRows, IsRow, IsStanding, Rows, rowsTy}
-
--- a test that holds, or fails
-pub told : (t : Bool) → Holds t → t ≡ true
-told true holds = refl
-told false holds = absurd holds
-
-pub denied : (t : Bool) → Holds (not t) → t ≡ false
-denied true fails = absurd fails
-denied false fails = refl
 
 -- a reference to rows, one to bytes, and a slice of bytes, as types of locals
 abbrev pub rowsRef : Ty
@@ -123,17 +114,6 @@ module _ {M : Type 1} {𝓤 : URA M} {H : Heap 𝓤} {A : Atoms 𝓤} {K : Type 
   -- what is read is this value too
   pub reads-as : K → {τ : Ty} {b o : ℕ} {u v : Val} → u ≡ v → Reads K W Γ τ b o u → Reads K W Γ τ b o v
   reads-as t {τ} {b} {o} e reads = subst (Reads K W Γ τ b o) e reads
-
-  -- a call has answered u: its result r, what the callee says of r, and that u is the machine value of r
-  pub answers :
-      K → {G : Goal 𝓤 H} → Soaks G → (R : RattleType) (back : Item 𝓤) (Says : R .Denot → SProp 𝓤) (Said : R .Denot → Type 0) (u : Val) →
-      ((r : R .Denot) → ent 𝓤 (Says r) (fact 𝓤 (Said r))) →
-      ((r : R .Denot) → Said r → Is R r (u ∷ []) → Seq K W (‵ (R .own r (u ∷ [])) ∷ back ∷ Γ) G) →
-      Seq K W (raw (H .⇛ (ex 𝓤 (λ (r : R .Denot). sep 𝓤 (sep 𝓤 (mean 𝓤 H A back) (sem 𝓤 H A (R .own r (u ∷ [])))) (Says r)))) ∷ Γ) G
-  answers t soaks R back Says Said u tells next =
-      use1 W (later (exists (λ (r : R .Denot). (back ⊛ ‵ (R .own r (u ∷ []))) ⊛ raw (Says r)))) (id⊢ 𝓤 _) $ await t soaks $ pick t (λ r.
-      split t $ move t (1 ∷ []) $ use1 W (raw (fact 𝓤 (Said r))) (tells r) $ heard t (Said r) (λ e.
-      split t $ move t (1 ∷ []) $ peeks t R (Is R) (shows 𝓤 H A R) r (u ∷ []) (λ is. next r e is)))
 
 module _ {M : Type 1} {𝓤 : URA M} {H : Heap 𝓤} {A : Atoms 𝓤} {K : Type 0} {W : Given 𝓤 H A} {Γ : List (Item 𝓤)} {G : Goal 𝓤 H} where
   -- what numbers and plain records own is had for nothing
@@ -194,17 +174,3 @@ pub gone :
     {M : Type 1} (𝓤 : URA M) (H : Heap 𝓤) (A : Atoms 𝓤) (W : Given 𝓤 H A) (n : ℕ) (F : RattleType) → Silent 𝓤 H A W n (plain (λ _. F)) yes →
     Goes 𝓤 H A W n (plain (λ _. F)) yes (spent n F)
 gone 𝓤 H A W n F silent = goes-dropped 𝓤 H A W n (plain (λ _. F)) yes silent
-
--- two facts that are asked for, one after the other, are learned
-pub needs-both :
-    {M : Type 1} (𝓤 : URA M) (φ ψ : Type 0) (P : SProp 𝓤) {Q : SProp 𝓤} → (φ → ψ → ent 𝓤 P Q) → ent 𝓤 (sep 𝓤 P (sep 𝓤 (fact 𝓤 φ) (fact 𝓤 ψ))) Q
-needs-both 𝓤 φ ψ P next =
-    via 𝓤 (sep 𝓤 (sep 𝓤 P (fact 𝓤 φ)) (fact 𝓤 ψ)) (assoc′ 𝓤 P (fact 𝓤 φ) (fact 𝓤 ψ))
-    (needs 𝓤 ψ (sep 𝓤 P (fact 𝓤 φ)) (λ second. needs 𝓤 φ P (λ first. next first second)))
-
--- and shown
-pub says-both :
-    {M : Type 1} {𝓤 : URA M} {H : Heap 𝓤} {A : Atoms 𝓤} {K : Type 0} {W : Given 𝓤 H A} {Γ : List (Item 𝓤)} → K → {φ ψ : Type 0} {P : SProp 𝓤} → φ → ψ →
-    Step K W Γ (prop P) Γ (prop (sep 𝓤 P (sep 𝓤 (fact 𝓤 φ) (fact 𝓤 ψ))))
-says-both {𝓤 = 𝓤} t {φ} {ψ} {P} first second =
-    step (λ s. suffices t _ (assoc∗ 𝓤 P (fact 𝓤 φ) (fact 𝓤 ψ)) $ says t second $ says t first $ s)

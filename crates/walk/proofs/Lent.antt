@@ -50,19 +50,14 @@ pub use denote.Triple.Table.{cited, entered}
 pub use denote.Triple.Walked.{Stays, ends-at, goes-dropped, needs, says, stay-dropped, walk-meets, walkOf, walked}
 pub use Rattle.walk.specs.Prelude.{jobs, not}
 use mathlib.Core.List.{map-id}
-use mir.Syntax.{Opd as Operand, Ty, cond, exit, imm, seq, skip, tyRef}
-use mir.Val.{vbool}
+use mir.Syntax.{Ty, imm, tyRef}
 use base.Fml.{froom}
-use base.Logic.{ex, id⊢, sep}
-use prog.Wp.{exits}
-use types.Kit.{Goal, Seq, Soaks, mean, prop}
-use types.Run.{Opd, jumps}
 use denote.Array.{Array}
 use denote.Memory.{pointee}
 use denote.RattleType.{RattleType}
-use denote.Steps.{heard, peeks}
+pub use Rattle.laws.proofs.Walking.{answers, failed, goes-on, held}
 use denote.Struct.Laws as LL
-use Rattle.walk.specs.Prelude.{Bool, Line, false, true}
+use Rattle.walk.specs.Prelude.{Line}
 use Rattle.line.proofs.Line as L
 use Rattle.line.proofs.Line.Laws as L′
 use Rattle.rows.proofs.row.Row as R
@@ -98,31 +93,3 @@ module _ {M : Type 1} (𝓤 : URA M) where
 pub entries-are : (l : Line) → Is L.the-row l (L′.lowered l ∷ []) → Is Jobs (l .jobs) (arrayVal (map (vint w8) (l .jobs)) ∷ [])
 entries-are l is =
     subst (λ (zs : List ℕ). Is Jobs zs (arrayVal (map (vint w8) zs) ∷ [])) (map-id (l .jobs)) (LL.owed L.the-type L′.the-laws l (L′.lowered l ∷ []) is .0)
-
--- what a test of the machine says
-pub held : (t : Bool) → Holds t → t ≡ true
-held true _ = refl
-held false h = absurd h
-
-pub failed : (t : Bool) → Holds (not t) → t ≡ false
-failed true h = absurd h
-failed false _ = refl
-
-module _ {M : Type 1} {𝓤 : URA M} {H : Heap 𝓤} {A : Atoms 𝓤} {K : Type 0} {W : Given 𝓤 H A} {Γ : List (Item 𝓤)} {G : Goal 𝓤 H} where
-  -- a call has answered u: its result r, what the callee says of r, and that u is the machine value of r
-  pub answers :
-      K → Soaks G → (R : RattleType) (back : Item 𝓤) (Says : R .Denot → SProp 𝓤) (Said : R .Denot → Type 0) (u : Val) →
-      ((r : R .Denot) → ent 𝓤 (Says r) (fact 𝓤 (Said r))) →
-      ((r : R .Denot) → Said r → Is R r (u ∷ []) → Seq K W (‵ (R .own r (u ∷ [])) ∷ back ∷ Γ) G) →
-      Seq K W (raw (H .⇛ (ex 𝓤 (λ (r : R .Denot). sep 𝓤 (sep 𝓤 (mean 𝓤 H A back) (sem 𝓤 H A (R .own r (u ∷ [])))) (Says r)))) ∷ Γ) G
-  answers t soaks R back Says Said u tells next =
-      use1 W (later (some (λ (r : R .Denot). (back ⊛ ‵ (R .own r (u ∷ []))) ⊛ raw (Says r)))) (id⊢ 𝓤 _) $ await t soaks $ pick t (λ r.
-      split t $ move t (1 ∷ []) $ use1 W (raw (fact 𝓤 (Said r))) (tells r) $ heard t (Said r) (λ e.
-      split t $ move t (1 ∷ []) $ peeks t R (Is R) (shows 𝓤 H A R) r (u ∷ []) (λ is. next r e is)))
-
-module _ {M : Type 1} {𝓤 : URA M} {H : Heap 𝓤} {A : Atoms 𝓤} {K : Type 0} {W : Given 𝓤 H A} {Γ : List (Item 𝓤)} {C : Calls 𝓤 H} {Λ : Loops 𝓤 H} {E : Env 𝓤 H} {q : Then 𝓤 H} where
-  -- the test of a loop: it holds and the turn goes on, or it fails and the loop is left
-  pub tests :
-      K → {c : Operand} {n : ℕ} {b : Body} {y : Bool} → Opd K W Γ E c (vbool y) → (Holds y → Seq K W Γ (runs C Λ E b q)) →
-      (Holds (not y) → Seq K W Γ (prop (post 𝓤 H q (exits n)))) → Seq K W Γ (runs C Λ E (seq (cond c skip (exit n)) b) q)
-  tests t o on off = first t $ branches t o (λ h. skips t $ record { prf = on h .prf }) (λ h. jumps t $ record { prf = off h .prf })

@@ -1,6 +1,6 @@
 -- A walk of the code by hand: the loan of the rows is opened once, before the loop, and shut once, after it. Each turn loads the next job from the line and its row
 -- through the reference, and goes one job further; what that means is told by the contracts of the functions that are called, and by the laws of the pace.
-use Rattle.walk.proofs.Lent.{ !, ArrayOf, Atoms, Below, Body, Calls, Cell, Contract, Env, Free, Fun, GName, Given, Heap, Holds, InvImage·wf, Is, Ises, Item, Jobs, Lft, List, Loops, Meets, Memory, Nat·lt-wfRel, Out, RefOf, RefT, Routine, Rows, SProp, Share, ShrRef, Sq, Stays, Tables, Then, Triple, URA, Val, WT, WellFounded, Wp, WpFn, WpFn-mono, [], _$_, _*_, _+_, _-_, _<_, _^_, _∵_, _∷_, _≡_, _⊛_, add, addr, afterBlock, afterSeq, afterTurn, again, alloc0, alloc1, and-then, answers, anyQ, ap, arith, arr-parts, array-apart, array-copy, array-lawful, array-makes, array-tells, array-vals, array-whole, arrayVal, assign, assigns, assigns-last, atRet, atReturn, bin, blocks, branches, by, calls-at, cellAt, cited, copy, done, drop, elem-back, elem-out, emp, ends-at, ensured, ent, enter, entered, entries, entries-are, exE, exec, fact, facts, failed, fat, fdies, feqI, feqL, first, fjoin, fld, flft, fmOf, fobor, forget, fpack, fpick, frame, free0, free1, from, fsep, fsplit, fsplit3, ftrue, fullShare, getD, givenOf, goes-dropped, hasTy, held, hop, init, int, jobs, join, keep, land, lasts, leaving, length, lent, lit, lit<, load, look, look-in, look-raw, loops, map, move, named, needs, no-more, not, nothing, now, obor-close, of-opd, onEntry, only, op2, owned, owns, owns-make, params1, part-halves, partAt, partOf, pass0, pass1, place, place-byte, place-is, plain, post, ptr-vals, qed, raw, refl, returns-within, rewrite, row, runs, says, sem, shares, shows, shr-bor-open, shr-tells, skips, snd∗, split, stay-dropped, stop, store, stride, sub, subst, suffices, sym, tables, tablesOf, tests, tripleOf, tyBool, tyInt, tyPtr, u32, u8, uint-lawful, uint-makes, uint-tells, uint-vals, un, unsigned, use0, use1, vint, vptr, w32, w64, w8, walk-meets, walkOf, walked, whole, yes, ‵, ℕ, ⋆}
+use Rattle.walk.proofs.Lent.{ !, ArrayOf, Atoms, Below, Body, Calls, Cell, Contract, Env, Free, Fun, GName, Given, Heap, Holds, InvImage·wf, Is, Ises, Item, Jobs, Lft, List, Loops, Meets, Memory, Nat·lt-wfRel, Out, RefOf, RefT, Routine, Rows, SProp, Share, ShrRef, Sq, Stays, Tables, Then, Triple, URA, Val, WT, WellFounded, Wp, WpFn, WpFn-mono, [], _$_, _*_, _+_, _-_, _<_, _^_, _∵_, _∷_, _≡_, _⊛_, add, addr, afterBlock, afterSeq, afterTurn, again, alloc0, alloc1, and-then, answers, anyQ, ap, arith, arr-parts, array-apart, array-copy, array-lawful, array-makes, array-tells, array-vals, array-whole, arrayVal, assign, assigns, assigns-last, atRet, atReturn, bin, blocks, branches, by, calls-at, cellAt, cited, copy, done, drop, elem-back, elem-out, emp, ends-at, ensured, ent, enter, entered, entries, entries-are, exE, exec, fact, facts, failed, fat, fdies, feqI, feqL, first, fjoin, fld, flft, fmOf, fobor, forget, fpack, fpick, frame, free0, free1, from, fsep, fsplit, fsplit3, ftrue, fullShare, getD, givenOf, goes-dropped, hasTy, held, hop, init, int, jobs, join, keep, land, lasts, leaving, length, lent, lit, lit<, load, look, look-in, look-raw, loops, map, move, named, needs, no-more, not, nothing, now, obor-close, of-opd, onEntry, only, op2, owned, owns, owns-make, params1, part-halves, partAt, partOf, pass0, pass1, place, place-byte, place-is, plain, post, ptr-vals, qed, raw, refl, returns-within, rewrite, row, runs, says, sem, shares, shows, shr-bor-open, shr-tells, skips, snd∗, split, stay-dropped, stop, store, stride, sub, subst, suffices, sym, tables, tablesOf, goes-on, tripleOf, tyBool, tyInt, tyPtr, u32, u8, uint-lawful, uint-makes, uint-tells, uint-vals, un, unsigned, use0, use1, vint, vptr, w32, w64, w8, walk-meets, walkOf, walked, whole, yes, ‵, ℕ, ⋆}
 use denote.Struct.Laws as LL
 use Rattle.walk.specs.Prelude.{Bounds, Line, Lines, Pace, Row, Walked, idle, ltb, ltb-false, ltb-true, not-false, not-true, rowOf, true}
 use Rattle.walk.specs.Pace.{begun, finished, paced}
@@ -242,7 +242,9 @@ module _ {M : Type 1} (𝓤 : URA M) (H : Heap 𝓤) (A : Atoms 𝓤) (W : Given
         unfolding afterTurn
         turns t =
             assigns ! (bin ! (load ! (from ! (stop !)) (look ! 24 refl)) (load ! (from ! (stop !)) (look ! 28 refl)) tt) (from ! (stop !)) (init ! 18 refl (tt, tt)) $
-            tests ! (load ! (from ! (stop !)) (look ! 18 refl)) (λ holds. let inside = ltb-true (t .p) len (held (ltb (t .p) len) holds) in
+            goes-on ! (load ! (from ! (stop !)) (look ! 18 refl))
+            (λ fails. forget ! 18 refl $ exec ! C Λ E mir.t-6 (atRet E Post) $ ends refl (t .p) (t .w) (t .is) (pacing-end rows line lines (t .p) (t .w) (t .pacing) (ltb-false (t .p) len (failed (ltb (t .p) len) fails))))
+            (λ holds. let inside = ltb-true (t .p) len (held (ltb (t .p) len) holds) in
             -- the job: the entry's place, and what stands there
             assigns ! (addr ! (from ! (stop !))) (from ! (stop !)) (init ! 16 refl (tt, tt)) $
             assigns ! (bin ! (load ! (from ! (stop !)) (look ! 16 refl)) (load ! (from ! (stop !)) (look ! 24 refl)) tt) (from ! (stop !)) (init ! 14 refl (tt, tt)) $
@@ -282,7 +284,6 @@ module _ {M : Type 1} (𝓤 : URA M) (H : Heap 𝓤) (A : Atoms 𝓤) (W : Given
             (λ good. skips ! $ exec ! C Λ E more (anyQ (Turned t)) $
             assigns-last ! (bin ! (load ! (from ! (stop !)) (look ! 24 refl)) (lit ! tt) (record { fits = counts many enough t inside })) (from ! (stop !)) (store ! 24 refl (tt, record { fits = counts many enough t inside })) $
             forget ! 18 refl $ again ! Nearer At t (onward many enough t inside v e is-v (not-false (v .sound) (failed (not (v .sound)) good))) (nearer many enough t inside)))))))
-            (λ fails. forget ! 18 refl $ exec ! C Λ E mir.t-6 (atRet E Post) $ ends refl (t .p) (t .w) (t .is) (pacing-end rows line lines (t .p) (t .w) (t .pacing) (ltb-false (t .p) len (failed (ltb (t .p) len) fails))))
 
         -- the loop, and what follows it
         looped : (t : Reached) → Sq W (At t) (runs C Λ E mir.t-5 (atRet E Post))

@@ -1,5 +1,5 @@
 -- A walk of the code by hand: the table is lent to `weigh` and comes back, and goes on to `write` for good. Of both the contract alone is used.
-use Rattle.in_place.proofs.Walk.{Atoms, Calls, Contract, FmC, Fun, GName, Given, Heap, Is, Lft, LentShr, List, Loops, Memory, MutRef, RefT, Routine, SProp, Share, ShrRef, Stays, Triple, URA, Val, WpFn, WpFn-mono, [], _$_, _∙_, _∵_, _∷_, _≡_, _⊛_, addr, alloc0, alloc1, and-then, answers, answers-leaving, ap, assigns, await, by, calls-at, cited, close-ref, done, drop, emp, ends-at, ensured, ent, enter, entered, exE, fact, fat, fbor, feqI, fjoin, fjoin3, fld, flent, flft, fmOf, fobs, forget, frame, free0, free1, fres, from, fst∗, fsplit, fsplit3, ftrue, fullShare, gave-ref, givenOf, goes-gave-ref, goes-none, hop, init, join, keep, land, lasts, later, lends-shr, lent-back, lft-end, lft-new, load, look, look-in, mem, move, mut-tells, named, needs, no-more, nothing, of-opd, onEntry, open-ref, owned, owns, params1, partAt, pass0, pass1, peeks, pick, plain, ptr-vals, qed, raw, refl, returns, rewrite, says, sem, sep, shows, snd∗, some, split, stay-none, stop, sub, subst, suffices, sym, tables, tablesOf, tripleOf, use1, use2, use3, via, vptr, walk-meets, walkOf, walked, whole, yes, ‵, ℕ, ⋆, ! }
+use Rattle.in_place.proofs.Walk.{Atoms, Calls, Contract, FmC, Fun, GName, Given, Heap, Is, Lft, List, Loops, Memory, MutRef, RefT, Routine, SProp, Share, ShrRef, Stays, Triple, URA, Val, WpFn, WpFn-mono, [], _$_, _∵_, _∷_, _≡_, _⊛_, addr, alloc0, alloc1, and-then, answers, answers-leaving, ap, assigns, await, by, calls-at, cited, close-ref, done, drop, ends-at, ensured, ent, enter, entered, exE, fact, fat, fbor, feqI, fjoin, fjoin3, fld, flent, flft, fmOf, fobs, forget, frame, free0, free1, fres, from, fst∗, fsplit, fsplit3, ftrue, fullShare, gave-ref, givenOf, goes-gave-ref, goes-none, hop, init, join, keep, land, lasts, later, lends-shr, lent-back, lft-end, lft-new, load, look, look-in, mem, move, mut-tells, named, needs, no-more, nothing, of-opd, onEntry, open-ref, owned, owns, params1, partAt, pass0, pass1, peeks, pick, plain, ptr-vals, qed, raw, refl, returns, rewrite, says, sem, sep, shows, snd∗, some, split, stay-none, stop, sub, subst, suffices, sym, tables, tablesOf, tripleOf, use1, use2, use3, via, vptr, walk-meets, walkOf, walked, whole, yes, ‵, ℕ, ⋆, ! }
 use mathlib.Core.Bool.{false}
 use mir.Syntax.{tyUnit}
 use mir.Val.{WT, hasTy}
@@ -11,14 +11,11 @@ use denote.Builtin.{unit}
 use denote.Enum.Laws as EL
 use denote.Struct.Laws as LL
 use Rattle.event.specs.Events.{about}
-use Rattle.event.specs.Limits.{jobs}
 use Rattle.event.specs.declared.events.Event.{Event}
 use Rattle.event.proofs.events.Event as Ev
 use Rattle.event.proofs.events.Event.Laws as Ev′
 use Rattle.arbiter.specs.declared.table.Table.{Table}
 use Rattle.arbiter.proofs.table.Table as T
-use Rattle.arbiter.proofs.table.Table.Laws as T′
-use Rattle.numbers.specs.Numbers.{eventTold, numbersOf}
 use Rattle.numbers.proofs.EventAnswer as N
 use Rattle.numbers.proofs.EventAnswer.Laws as N′
 use Rattle.in_place.specs.Putting.{Puts, Writable, written}

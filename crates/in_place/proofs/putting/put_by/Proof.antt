@@ -1,5 +1,5 @@
 -- What was found is what is written.
-use Rattle.in_place.specs.Prelude.{ap, decided, needs, sym, ℕ, _∙_}
+use Rattle.in_place.specs.Prelude.{ap, decided, needs, sym, _∙_}
 use Rattle.event.specs.declared.events.Parts.{Parts}
 use Rattle.in_place.specs.PuttingLaws.{goes-puts, rests-puts}
 use Rattle.in_place.proofs.putting.put_by.Statement.{statement}

@@ -1,11 +1,9 @@
 -- A walk of the code by hand: where there is something to settle, the borrow is opened, true time is stored, the rows are lent to `settle_in` where they lie, and the borrow is closed at the table that it leaves. Of all that is called the contract alone is used.
-use Rattle.in_place.proofs.Walk.{Atoms, Calls, Contract, FmC, Fun, GName, Given, Heap, Is, Lft, List, Loops, Memory, MutRef, RefT, Routine, SProp, Share, Stays, Triple, URA, Val, WpFn, WpFn-mono, [], _$_, _+_, _<_, _^_, _∙_, _∵_, _∷_, _≡_, _⊛_, addr, agg, all, alloc0, alloc1, and-then, answers, ap, assigns, await, by, calls-at, cellAt, cited, done, drop, ends-at, ensured, ent, enter, entered, exE, fact, fat, fbor, feqI, feqL, fjoin, fjoin3, flent, fld, flft, fmOf, fobs, forget, frame, free0, free1, from, fsplit, fsplit3, ftrue, fullShare, givenOf, goes-dropped, hop, init, join, keep, land, lasts, later, lft-end, lft-new, load, look, look-in, mem, move, mut-tells, named, needs, no-more, nothing, of-opd, onEntry, only, owned, owns, params1, partAt, pass0, pass1, peeks, pick, plain, ptr-vals, qed, raw, refl, returns, rewrite, says, sem, shows, snd∗, some, spelt, split, stay-dropped, stop, sub, subst, suffices, sym, tables, tablesOf, tripleOf, u32, uint-makes, use1, use2, use3, vint, vptr, w32, walk-meets, walkOf, walked, whole, yes, ‵, ℕ, ⋆, ! }
-use Rattle.walk.proofs.Lent.{Cell, Env, Free, Item, Sq, Then, Wp, afterSeq, anyQ, atRet, atReturn, branches, exec, failed, first, held, leaving, post, returns-within, runs, skips, use0}
-use Rattle.sweep.proofs.Walk.{says-both}
-use Rattle.in_place.specs.Prelude.{Acts, Bool, Bounds, Row, Settles, Swept, Table, false, jobs, length, moved, set, true, true≢false, _≤_}
+use Rattle.in_place.proofs.Walk.{Atoms, Calls, Contract, FmC, Fun, GName, Given, Heap, Is, Lft, List, Loops, Memory, MutRef, RefT, Routine, SProp, Share, Stays, Triple, URA, Val, WpFn, WpFn-mono, [], _$_, _+_, _<_, _^_, _∙_, _∵_, _∷_, _≡_, _⊛_, addr, agg, all, alloc0, alloc1, and-then, answers, ap, assigns, await, by, calls-at, cellAt, cited, done, drop, ends-at, ensured, ent, enter, entered, exE, fact, fat, fbor, feqI, feqL, fjoin, fjoin3, flent, fld, flft, fmOf, fobs, forget, frame, free0, free1, from, fsplit, fsplit3, ftrue, fullShare, givenOf, goes-dropped, hop, init, join, keep, land, lasts, later, lft-end, lft-new, load, look, look-in, mem, move, mut-tells, named, needs, no-more, nothing, of-opd, onEntry, only, owned, owns, params1, partAt, pass0, pass1, peeks, pick, plain, ptr-vals, qed, raw, refl, rewrite, says, says-both, sem, shows, snd∗, some, spelt, split, stay-dropped, stop, sub, subst, suffices, sym, tables, tablesOf, tripleOf, u32, uint-makes, use1, use2, use3, vint, vptr, w32, walk-meets, walkOf, walked, whole, yes, ‵, ℕ, ⋆, ! }
+use Rattle.walk.proofs.Lent.{Cell, Env, Free, Item, Sq, Then, Wp, afterSeq, anyQ, atRet, atReturn, branches, exec, failed, first, held, leaving, post, returns-within, runs, skips}
+use Rattle.in_place.specs.Prelude.{Acts, Bounds, Row, Settles, Table, false, length, moved, true, true≢false}
 use mathlib.Core.Bool.{not}
 use borrow.Author.Tests.{not-false, not-true}
-use lib.Dec.{T as Holds}
 use package.mir.Syntax.{Body, Lifetime, Ty, copy, erased, mut, place, return, rvOpd, assign, field, seq, tyBool, tyInt, tyRef, w64, w8}
 use package.mir.Val.{vbool}
 use base.Fml.{Fml, fauth, fobor, fres}
@@ -15,7 +13,6 @@ use types.Part.{store-in}
 use types.Run.{un}
 use types.SemTy.{Body as Held}
 use types.Tokens.{name-done}
-use denote.Array.{arrayVal}
 use denote.Builtin.{u8, usize}
 use denote.Lend.{lends-ref, ref-back}
 use denote.Memory.{pointee}

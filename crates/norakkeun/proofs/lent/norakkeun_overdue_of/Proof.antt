@@ -1,9 +1,7 @@
 -- A walk of the code by hand: the table is read behind its reference, and the question by value is asked of it, with the list lent on for good. Of that the contract alone is used.
-use Rattle.in_place.proofs.Walk.{Atoms, Calls, Contract, FmC, Fun, GName, Given, Heap, Is, Lft, List, Loops, Memory, RefT, Routine, SProp, Share, ShrRef, Stays, Triple, URA, Val, WpFn, WpFn-mono, [], _$_, _∵_, _∷_, _≡_, _⊛_, addr, agg, alloc0, alloc1, and-then, answers-leaving, assigns, by, calls-at, cited, done, drop, emp, ends-at, ensured, ent, enter, entered, exE, fact, feqI, feqL, fjoin, fjoin3, fld, flft, fmOf, forget, frame, free0, free1, fres, from, fshr-bor, fsplit, fsplit3, fst∗, ftrue, givenOf, goes-none, goes-none-ref, hop, init, join, keep, land, lasts, load, look, look-in, look-raw, move, named, no-more, nothing, of-opd, onEntry, owned, owns, params1, partAt, pass0, pass1, plain, ptr-vals, qed, raw, refl, returns, says, sem, sep, shr-tells, shuts, snd∗, split, stay-none, stay-none-ref, stop, sub, subst, suffices, tables, tablesOf, tripleOf, use2, via, vptr, walk-meets, walkOf, walked, whole, yes, ‵, ℕ, ⋆, ! }
+use Rattle.in_place.proofs.Walk.{Atoms, Calls, Contract, FmC, Fun, GName, Given, Heap, Is, Lft, List, Loops, Memory, RefT, Routine, SProp, Share, ShrRef, Stays, Triple, URA, Val, WpFn, WpFn-mono, [], _$_, _∵_, _∷_, _≡_, _⊛_, addr, agg, alloc0, alloc1, and-then, answers-leaving, assigns, by, calls-at, cited, done, drop, emp, ends-at, ensured, ent, enter, entered, exE, fact, feqI, feqL, fjoin, fjoin3, fld, flft, fmOf, forget, frame, free0, free1, fres, from, fshr-bor, fsplit, fsplit3, fst∗, ftrue, givenOf, goes-none, goes-none-ref, hop, init, join, keep, land, lasts, load, look, look-in, look-raw, move, named, no-more, nothing, of-opd, onEntry, owned, owns, params1, partAt, pass0, pass1, plain, ptr-vals, qed, raw, refl, returns, says, says-both, sem, sep, shr-tells, shuts, snd∗, split, stay-none, stay-none-ref, stop, sub, subst, suffices, tables, tablesOf, tripleOf, use2, via, vptr, walk-meets, walkOf, walked, whole, yes, ‵, ℕ, ⋆, ! }
 use lib.ListN.{length}
-use base.Logic.{emp∗, comm∗, monoL}
-use contract.Monad.{fact-use, factI}
-use types.Kit.{Item, Step, prop}
+use contract.Monad.{fact-use}
 use denote.Builtin.{u8}
 use denote.Slice.{MutSlice, Room, finally, mut-slice-tells, slice-vals, sliceVal}
 use denote.Struct.Laws as LL
@@ -31,15 +29,6 @@ use Rattle.norakkeun.proofs.lent.norakkeun_overdue_of.Statement.{statem
 
 abbrev stayed : Stays (overdue-of.ended .signature .params) (overdue-of.ended .kept)
 stayed = (stay-none-ref (0 ∷ []) tt (plain (λ _. T.the-row)) yes, (stay-none (λ _. Ti.the-row) yes, (gave-slice (1 ∷ []) tt (plain (λ _. u8)), tt)))
-
--- what two clauses say
-says-both :
-    {M : Type 1} {𝓤 : URA M} {H : Heap 𝓤} {A : Atoms 𝓤} {K : Type 0} {W : Given 𝓤 H A} {Γ : List (Item 𝓤)} → K → {φ ψ : Type 0} {P : SProp 𝓤} → φ → ψ →
-    Step K W Γ (prop P) Γ (prop (sep 𝓤 P (sep 𝓤 (fact 𝓤 φ) (fact 𝓤 ψ))))
-says-both {𝓤 = 𝓤} t {φ} {ψ} {P} x y =
-    suffices t P (via 𝓤 (sep 𝓤 (emp 𝓤) P) (emp∗ 𝓤 P) (via 𝓤 (sep 𝓤 (sep 𝓤 (fact 𝓤 φ) (fact 𝓤 ψ)) P)
-    (monoL 𝓤 P (via 𝓤 (fact 𝓤 ψ) (factI 𝓤 ψ (emp 𝓤) y) (via 𝓤 (sep 𝓤 (emp 𝓤) (fact 𝓤 ψ)) (emp∗ 𝓤 (fact 𝓤 ψ)) (monoL 𝓤 (fact 𝓤 ψ) (factI 𝓤 φ (emp 𝓤) x)))))
-    (comm∗ 𝓤 (sep 𝓤 (fact 𝓤 φ) (fact 𝓤 ψ)) P)))
 
 module _ {M : Type 1} (𝓤 : URA M) (H : Heap 𝓤) (A : Atoms 𝓤) (W : Given 𝓤 H A) (at-mem : Memory → SProp 𝓤) (run : Routine → Fun 𝓤) where
   -- what is known of the callee

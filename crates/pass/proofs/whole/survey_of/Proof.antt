@@ -1,14 +1,13 @@
 -- A walk of the code by hand: the lent rows go to `line_up_of` and, where idle rows are zero, to `walk_of`. Of all that is called the contract alone is used.
-use Rattle.walk.proofs.Lent.{Atoms, Cell, Free, Wp, afterSeq, anyQ, Then, atReturn, leaving, post, returns-within, Calls, Contract, Env, FmC, Fun, GName, Given, Heap, Is, Ises, Item, Lft, List, Loops, Memory, RefOf, RefT, Routine, Rows, SProp, Share, ShrRef, Sq, Stays, Tables, Triple, URA, Val, WpFn, WpFn-mono, [], _$_, _∵_, _∷_, _≡_, _⊛_, alloc0, alloc1, and-then, answers, ap, assigns, atRet, by, calls-at, cited, done, drop, ends-at, ensured, ent, enter, entered, exE, exec, fact, fat, fdies, feqI, first, fjoin, fld, flft, fmOf, forget, frame, free0, free1, from, fsplit, ftrue, fullShare, givenOf, goes-dropped, held, failed, init, join, keep, land, lasts, load, look, look-in, move, named, no-more, nothing, of-opd, onEntry, only, owned, owns, owns-make, params1, pass0, pass1, plain, ptr-vals, qed, raw, refl, returns, rewrite, runs, says, sem, shows, shr-tells, skips, snd∗, split, stay-dropped, stop, sub, subst, suffices, tables, tablesOf, tripleOf, tyBool, tyInt, u32, uint-makes, uint-tells, uint-vals, use0, use1, use2, vint, vptr, w32, walk-meets, walkOf, walked, whole, yes, ‵, ℕ, ⋆, !, branches, emp, exec, lent as lentᴹ}
-use Rattle.pass.specs.Prelude.{Bool, Line, Lines, Row, Walked, Walks, all, false, not, not-false, sym, true, zeroed, _∙_}
-use base.Fml.{Fml, froom}
+use Rattle.walk.proofs.Lent.{Atoms, Cell, Free, Wp, afterSeq, anyQ, Then, atReturn, leaving, post, returns-within, Calls, Contract, Env, FmC, Fun, GName, Given, Heap, Is, Item, Lft, List, Loops, Memory, RefOf, RefT, Routine, Rows, SProp, Share, ShrRef, Sq, Stays, Triple, URA, Val, WpFn, WpFn-mono, [], _$_, _∵_, _∷_, _≡_, _⊛_, alloc0, alloc1, and-then, answers, ap, assigns, atRet, by, calls-at, cited, done, drop, ends-at, ensured, ent, enter, entered, exE, exec, fact, fat, first, fjoin, fld, flft, fmOf, forget, frame, free0, free1, from, fsplit, ftrue, fullShare, givenOf, goes-dropped, held, failed, init, join, keep, land, lasts, load, look, look-in, move, named, no-more, nothing, of-opd, onEntry, only, owned, owns, params1, pass0, pass1, plain, ptr-vals, qed, raw, refl, rewrite, runs, says, sem, shr-tells, skips, snd∗, split, stay-dropped, stop, sub, subst, suffices, tables, tablesOf, tripleOf, tyBool, tyInt, u32, uint-makes, uint-tells, uint-vals, use1, use2, vint, vptr, w32, walk-meets, walkOf, walked, whole, yes, ‵, ℕ, ⋆, !, branches, emp, exec, lent as lentᴹ}
+use Rattle.pass.specs.Prelude.{Line, Lines, Row, Walked, Walks, false, not, not-false, sym, true, _∙_}
+use base.Fml.{Fml}
 use denote.Builtin.{ArrayOf}
-use base.Logic.{fst∗, sep, via}
+use base.Logic.{fst∗, via}
 use types.Kit.{lands}
 use types.Run.{un}
 use package.mir.Syntax.{Body, call, copy, place, return, seq}
 use package.mir.Val.{vbool}
-use types.Part.{sub as part}
 use denote.Ref.{shr-copy}
 use denote.Struct.Laws as LL
 use Rattle.rows.proofs.row.Row as R

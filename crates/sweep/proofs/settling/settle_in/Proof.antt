@@ -1,6 +1,6 @@
 -- A walk of the code by hand: the rows' borrow is opened before the loop and closed after it, so that in the loop their memory is at
 -- hand; the list is lent on in each turn to whoever writes it.
-use Rattle.sweep.proofs.Walk.{ !, Acts, ArrayOf, Atoms, Below, Body, Bool, Bounds, Calls, Contract, Env, FmC, Fun, GName, Given, Heap, Holds, InvImage·wf, Is, Item, Lft, Line, Lines, List, Loops, Memory, MutRef, MutSlice, Nat·lt-wfRel, Onward, Option, Out, RefT, Room, Routine, Row, SProp, Share, Slot, Sq, Standing, Stays, Tables, Triple, URA, Val, WT, WellFounded, Wp, WpFn, WpFn-mono, [], _$_, _++_, _+_, _-_, _<_, _^_, _∙_, _∵_, _∷_, _≡_, _≤_, _⊛_, a-row, a-standing, addr, after, afterBlock, afterSeq, afterTurn, again, agg, alloc0, alloc1, and-then, answers, anyQ, ap, arith, arrayVal, assigns, assigns-last, atRet, atReturn, await, bin, bit, blocks, bool, bool-lawful, branches, by, byteRef, calls-at, cited, closes, denied, done, drop, emp, ends-at, ensured, ent, enter, entered, erased, exE, exec, exists, fact, false, fat, fauth, fbor, feqI, feqL, first, fjoin, fjoin3, fld, flft, fmOf, fobor, fobs, forget, frame, free0, free1, from, front, fsplit, fsplit3, ftrue, fullShare, givenOf, goes-ref, goes-slice, gone, hasTy, heard, hop, idle, id⊢, init, jobs, join, jumps, keep, laid, land, lasts, later, length, length-map, lft-end, lft-new, lit, lit<, live, load, look, look-in, loops, map, mem, move, mut-slice-tells, mut-tells, named, needs-both, no-more, none, not, noted, nothing, number, of-opd, onEntry, only, opens, owns, params1, pass0, pass1, passedBy, peeks, pick, place-byte, place-is, plain, ptr-vals, qed, raw, reads-as, refl, replicate, returns, rewrite, row-typed, rowOf, rows-here, rows-there, rowsRef, runs, says, sem, sep, setOut, shows, skips, slice, slice-vals, sliceVal, snd∗, some, soundBy, spent, split, standing-typed, stay-ref, stay-slice, stop, store, store-in, sub, subst, suffices, sym, tables, tablesOf, told, tripleOf, true, truth, tyBool, tyInt, tyPtr, u8, uint-lawful, uint-tells, uint-vals, un, use0, use1, use2, use3, usize, vbool, vint, vptr, w32, w64, w8, walk-meets, walkOf, walked, whole, ‵, ℕ, ⋆}
+use Rattle.sweep.proofs.Walk.{ !, Acts, ArrayOf, Atoms, Below, Body, Bool, Bounds, Calls, Contract, Env, FmC, Fun, GName, Given, Heap, Holds, InvImage·wf, Is, Item, Lft, Line, Lines, List, Loops, Memory, MutRef, MutSlice, Nat·lt-wfRel, Onward, Option, Out, RefT, Room, Routine, Row, SProp, Share, Slot, Sq, Standing, Stays, Tables, Triple, URA, Val, WT, WellFounded, Wp, WpFn, WpFn-mono, [], _$_, _++_, _+_, _-_, _<_, _^_, _∙_, _∵_, _∷_, _≡_, _≤_, _⊛_, a-row, a-standing, addr, after, afterBlock, afterSeq, afterTurn, again, agg, alloc0, alloc1, and-then, answers, anyQ, ap, arith, arrayVal, assigns, assigns-last, atRet, atReturn, await, bin, bit, blocks, bool, bool-lawful, branches, by, byteRef, calls-at, cited, closes, failed, done, drop, emp, ends-at, ensured, ent, enter, entered, erased, exE, exec, exists, fact, false, fat, fauth, fbor, feqI, feqL, first, fjoin, fjoin3, fld, flft, fmOf, fobor, fobs, forget, frame, free0, free1, from, front, fsplit, fsplit3, ftrue, fullShare, givenOf, goes-ref, goes-slice, gone, hasTy, heard, hop, idle, id⊢, init, jobs, join, jumps, keep, laid, land, lasts, later, length, length-map, lft-end, lft-new, lit, lit<, live, load, look, look-in, loops, map, mem, move, mut-slice-tells, mut-tells, named, needs-both, no-more, none, not, noted, nothing, number, of-opd, onEntry, only, opens, owns, params1, pass0, pass1, passedBy, peeks, pick, place-byte, place-is, plain, ptr-vals, qed, raw, reads-as, refl, replicate, returns, rewrite, row-typed, rowOf, rows-here, rows-there, rowsRef, runs, says, sem, sep, setOut, shows, skips, slice, slice-vals, sliceVal, snd∗, some, soundBy, spent, split, standing-typed, stay-ref, stay-slice, stop, store, store-in, sub, subst, suffices, sym, tables, tablesOf, held, tripleOf, true, truth, tyBool, tyInt, tyPtr, u8, uint-lawful, uint-tells, uint-vals, un, use0, use1, use2, use3, usize, vbool, vint, vptr, w32, w64, w8, walk-meets, walkOf, walked, whole, ‵, ℕ, ⋆}
 use denote.Struct.Laws as LL
 use Rattle.rows.proofs.row.Row as R
 use Rattle.rows.proofs.row.Row.Laws as R′
@@ -9,7 +9,7 @@ use Rattle.line.proofs.Line as L
 use Rattle.line.proofs.Line.Laws as L′
 use Rattle.soundness.proofs.Bounds as B
 use Rattle.soundness.proofs.Bounds.Laws as B′
-use Rattle.sweep.proofs.Element.{element, map-set}
+use Rattle.laws.proofs.Element.{element, map-set}
 use Rattle.sweep.proofs.Entries.{entries, entry-map}
 use Rattle.sweep.proofs.LentOn.{LentOn, comes-home, lends-on}
 use Rattle.sweep.proofs.Turns.{AreRows, Asked, At, IsRow, IsStanding, Rows, rowsTy, acting, as-long, begins, byte, ends, few, few-tokens, fits, goes-on, has-room, is-front, job, job-inside, left, listed, near, passed-row, passed-standing, place-inside, word, row-of, test, token}
@@ -343,8 +343,8 @@ module _ {M : Type 1} (𝓤 : URA M) (H : Heap 𝓤) (A : Atoms 𝓤) (W : Given
             land ! (from ! (stop !)) (init ! 30 refl (bool-lawful 𝓤 H A W .typed x _ is .0)) $
             rewrite ! 30 (λ (u : Val). ‵ (fat fullShare tyBool l₁₈ 0 u)) (ap only is ∙ ap vbool e) refl $ drop ! $ drop ! $
             first ! $ branches ! (load ! (from ! (stop !)) (look ! 28 refl))
-            (λ on. skips ! $ exec ! C Λ E (after 3 mir.turn-1) (anyQ (Turned t)) $ goes-round t (told (test asked are t) on))
-            (λ over. jumps ! $ exec ! C Λ E mir.t-11 (atRet E Post) $ leaves t (denied (test asked are t) over))))
+            (λ on. skips ! $ exec ! C Λ E (after 3 mir.turn-1) (anyQ (Turned t)) $ goes-round t (held (test asked are t) on))
+            (λ over. jumps ! $ exec ! C Λ E mir.t-11 (atRet E Post) $ leaves t (failed (test asked are t) over))))
 
       -- up to the loop: the rows' borrow is opened, and job k's row is stored
       opening :

@@ -14,7 +14,7 @@ use prog.Memory.{size}
 use prog.Model.{elems}
 use prog.Wp.{Heap}
 use ghost.Atoms.{Atoms}
-use types.Kit.{Given, Item, _$_, _∵_, _⊛_, assume, by, done, each, frame, mean, move, qed, raw, split, use1, use2, ‵, ! }
+use types.Kit.{Given, Item, _$_, _∵_, _⊛_, assume, done, each, frame, mean, move, qed, raw, split, use1, use2, ‵, ! }
 use types.Part.{Part}
 use denote.Array.{Array, arrayVal, each as Each}
 use denote.Laws.{Is, Tells}
