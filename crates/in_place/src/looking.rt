@@ -1,8 +1,11 @@
 // What a call sees of a lent table.
 ghost use mathlib.Core.Path.{_≡_};
+ghost use Rattle.event.specs.Events.{jobOf};
 ghost use Rattle.pass.specs.Pass.{Surveyed};
 ghost use Rattle.arbiter.specs.Bounded.{boundsOf};
 use arbiter::Table;
+use event::Event;
+use event::parts_of;
 use pass::Survey;
 use pass::survey_of;
 use soundness::Bounds;
@@ -21,10 +24,11 @@ pub fn bounds_in(table: &Table) -> Bounds
     }
 }
 
-// What a call about a job sees of a table whose rows stay where they are.
-pub fn survey_in(table: &Table, job: u32) -> Survey
-    ensures { λ v. ⌜ Surveyed (boundsOf (now (table .entry))) (now (table .entry) .rows) job v ⌝ }
+// What an event sees of a table whose rows stay where they are.
+pub fn survey_in(table: &Table, event: Event) -> Survey
+    ensures { λ v. ⌜ Surveyed (boundsOf (now (table .entry))) (now (table .entry) .rows) (jobOf event) v ⌝ }
 {
+    let parts = parts_of(event);
     let b = bounds_in(table);
-    survey_of(&table.rows, b, job)
+    survey_of(&table.rows, b, parts.job)
 }

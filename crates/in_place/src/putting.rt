@@ -78,8 +78,7 @@ fn weigh(table: &Table, event: Event) -> Put
     requires { ⌜ about event .wakes ≡ false ⌝ }
     ensures { λ p. ⌜ Puts (now (table .entry)) event p ⌝ }
 {
-    let parts = parts_of(event);
-    let s = survey_in(table, parts.job);
+    let s = survey_in(table, event);
     let b = bounds_in(table);
     put_by(s, b.tokens, event)
 }

@@ -95,8 +95,7 @@ fn weigh_waking(table: &Table, event: Event, lent: usize) -> Sweep
     requires { ⌜ about event .wakes ≡ true ⌝ }
     ensures { λ c. ⌜ Sweeps lent (now (table .entry)) event c ⌝ }
 {
-    let parts = parts_of(event);
-    let s = survey_in(table, parts.job);
+    let s = survey_in(table, event);
     let bounds = bounds_in(table);
     sweep_by(s, bounds, event, lent)
 }

@@ -4,16 +4,8 @@ use base.Fml.{Fml}
 use denote.Enum.Laws as EL
 use denote.Struct.Laws as LL
 use Rattle.in_place.specs.Prelude.{Event, Surveyed, Table, about, boundsOf, false, jobOf, last-seen}
-use Rattle.event.specs.Events.{partsOf}
-use Rattle.event.specs.declared.events.Parts.{Parts}
 use Rattle.event.proofs.events.Event as Ev
 use Rattle.event.proofs.events.Event.Laws as Ev′
-use Rattle.event.proofs.events.Parts as Q
-use Rattle.event.proofs.events.Parts.Laws as Q′
-use Rattle.event.proofs.parts_of as parts-of
-use Rattle.event.proofs.parts_of.Met as parts-of-met
-use Rattle.event.proofs.parts_of.Symbol as parts-of-symbol
-use Rattle.event.proofs.parts_of.Symbol.{name as #parts-of}
 use Rattle.soundness.proofs.Bounds as B
 use Rattle.soundness.proofs.Bounds.Laws as B′
 use Rattle.pass.specs.declared.known.Survey.{Survey}
@@ -43,9 +35,6 @@ stayed = (stay-dropped (RefOf (0 ∷ []) tt (plain (λ _. T.the-row)) (λ _. tt)
 
 module _ {M : Type 1} (𝓤 : URA M) (H : Heap 𝓤) (A : Atoms 𝓤) (W : Given 𝓤 H A) (at-mem : Memory → SProp 𝓤) (run : Routine → Fun 𝓤) where
   -- what is known of the callees
-  abbrev PartsOf : Contract 𝓤
-  PartsOf = tripleOf 𝓤 H A parts-of.signature (parts-of.spec 𝓤 H A at-mem run)
-
   abbrev SurveyIn : Contract 𝓤
   SurveyIn = tripleOf 𝓤 H A survey-in.signature (survey-in.spec 𝓤 H A at-mem run)
 
@@ -72,19 +61,12 @@ module _ {M : Type 1} (𝓤 : URA M) (H : Heap 𝓤) (A : Atoms 𝓤) (W : Given
         says ! puts $ frame ! $ nothing ! $ nothing ! $ fjoin ! $ nothing ! $ fjoin ! $ frame ! $ done !
 
     -- what each callee is passed
-    abbrev to-parts : PartsOf .Ghost
-    to-parts = ((tt, tt, tt, (e, tt), (Ev′.lowered e ∷ [], tt)), tt)
+    abbrev to-survey : SurveyIn .Ghost
+    to-survey = (((κ, tt), (q, tt), tt, (lent, (e, tt)), (vptr b o ∷ [], (Ev′.lowered e ∷ [], tt))), tt)
 
-    goes-to-parts : Is Ev.the-row e (Ev′.lowered e ∷ []) → ent 𝓤 (sem 𝓤 H A ftrue) (PartsOf .pre to-parts)
-    goes-to-parts is-e =
-        qed W (‵ ftrue ∷ []) ∵ nothing ! $ owned ! Ev.the-row (Is Ev.the-row) ((EL.makes Ev.the-type Ev′.the-plain) 𝓤 H A) e _ is-e $ fjoin ! $ move ! (1 ∷ 0 ∷ []) $ join ! $ frame ! $ done !
-
-    abbrev to-survey : ℕ → SurveyIn .Ghost
-    to-survey j = (((κ, tt), (q, tt), tt, (lent, (j, tt)), (vptr b o ∷ [], (vint w32 j ∷ [], tt))), tt)
-
-    goes-to-survey : (j : ℕ) → Is u32 j (vint w32 j ∷ []) → ent 𝓤 (⋆ 𝓤 H A ((‵ (flft κ q) ⊛ ‵ ftrue) ∷ ‵ Lent ∷ [])) (SurveyIn .pre (to-survey j))
-    goes-to-survey j is-j =
-        qed W ((‵ (flft κ q) ⊛ ‵ ftrue) ∷ ‵ Lent ∷ []) ∵ nothing ! $ owned ! u32 (Is u32) (uint-makes 𝓤 H A W w32) j _ is-j $ fjoin ! $
+    goes-to-survey : Is Ev.the-row e (Ev′.lowered e ∷ []) → ent 𝓤 (⋆ 𝓤 H A ((‵ (flft κ q) ⊛ ‵ ftrue) ∷ ‵ Lent ∷ [])) (SurveyIn .pre to-survey)
+    goes-to-survey is-e =
+        qed W ((‵ (flft κ q) ⊛ ‵ ftrue) ∷ ‵ Lent ∷ []) ∵ nothing ! $ owned ! Ev.the-row (Is Ev.the-row) ((EL.makes Ev.the-type Ev′.the-plain) 𝓤 H A) e _ is-e $ fjoin ! $
         move ! (2 ∷ 0 ∷ []) $ fjoin ! $ move ! (1 ∷ 0 ∷ []) $ join ! $ frame ! $ done !
 
     abbrev to-put : Survey → PutBy .Ghost
@@ -99,44 +81,37 @@ module _ {M : Type 1} (𝓤 : URA M) (H : Heap 𝓤) (A : Atoms 𝓤) (W : Given
         move ! (1 ∷ 0 ∷ []) $ done !
 
     walk :
-        (C : Calls 𝓤 H) (Λ : Loops 𝓤 H) → FmC 𝓤 H (W .laws) C → Triple 𝓤 (C #parts-of) PartsOf → Triple 𝓤 (C #survey-in) SurveyIn → Triple 𝓤 (C #bounds-in) (BoundsIn 𝓤 H A at-mem run) → Triple 𝓤 (C #put-by) PutBy →
+        (C : Calls 𝓤 H) (Λ : Loops 𝓤 H) → FmC 𝓤 H (W .laws) C → Triple 𝓤 (C #survey-in) SurveyIn → Triple 𝓤 (C #bounds-in) (BoundsIn 𝓤 H A at-mem run) → Triple 𝓤 (C #put-by) PutBy →
         ent 𝓤 (onEntry 𝓤 H A weigh.signature (κ, tt) (q, tt) (lent, (e, tt)) at) (WpFn 𝓤 H C Λ code.function (vptr b o ∷ Ev′.lowered e ∷ []) Post)
-    walk C Λ fm parts surveys bounds puts-by =
+    walk C Λ fm surveys bounds puts-by =
         qed W ((‵ (flft κ q) ⊛ ‵ ftrue) ∷ ‵ (owns (ShrRef (named 0) κ T.the-row ∷ Ev.the-row ∷ []) (lent, (e, tt)) at) ∷ []) ∵ move ! (1 ∷ []) $ fsplit ! $ move ! (1 ∷ []) $ fsplit ! $
         peeks ! Ev.the-row (Is Ev.the-row) (shows 𝓤 H A Ev.the-row) e (Ev′.lowered e ∷ []) (λ is-e. move ! (2 ∷ []) $
         use1 W (‵ Lent ⊛ ‵ Lent) (shr-copy 𝓤 H A W (named 0) κ T.the-row .twice lent (vptr b o ∷ [])) $ split ! $ keep ! (0 ∷ 1 ∷ 4 ∷ []) $
         -- [the lent table; the lent table; the token]
         enter ! C Λ code.function (vptr b o ∷ Ev′.lowered e ∷ []) _ $
-        alloc1 ! (λ l₀. alloc1 ! (λ l₁. alloc1 ! (λ l₂. alloc1 ! (λ l₃. alloc1 ! (λ l₄. alloc1 ! (λ l₅. alloc0 ! $ params1 ! $
-        pass1 ! (init ! 8 refl (tt, tt)) $ pass1 ! (init ! 6 refl (EL.lawful Ev.the-type Ev′.the-laws 𝓤 H A W tt .typed e (Ev′.lowered e ∷ []) is-e .0)) $ pass0 ! $
-        nothing ! $ use1 W (raw (PartsOf .pre to-parts)) (goes-to-parts is-e) $
-        calls-at ! fm PartsOf parts to-parts (and-then ! (load ! (from ! (stop !)) (look ! 7 refl)) (no-more !)) (λ u.
-        answers ! tt Q.the-row (‵ ftrue) (ensured 𝓤 H A parts-of.ended (parts-of.clauses 𝓤 H A at-mem run) tt (e, tt) tt) (λ p. p ≡ partsOf e) u
-        (λ p. exE 𝓤 _ (λ ws. snd∗ 𝓤 (sem 𝓤 H A (lasts parts-of.ended tt (e, tt) ws)) (fact 𝓤 (p ≡ partsOf e)))) (λ p same is-p.
-        land ! (from ! (stop !)) (init ! 6 refl (LL.lawful Q.the-type Q′.the-laws 𝓤 H A W .typed p (u ∷ []) is-p .0)) $
-        rewrite ! 6 (λ (v : Val). ‵ (fat fullShare Q′.mir l₃ 0 v)) (ap only (Q′.lowers .val-is p (u ∷ []) is-p)) refl $ drop ! $ drop ! $
-        -- [room for _5; …; room for _4; …; _3; …; _2; …; _1; …; room for _0; …; the lent table; the lent table; the token]
-        move ! (14 ∷ 12 ∷ []) $ use2 W (raw (SurveyIn .pre (to-survey (p .job)))) (goes-to-survey (p .job) (LL.owed Q.the-type Q′.the-laws p (u ∷ []) is-p .1 .0)) $
-        calls-at ! fm SurveyIn surveys (to-survey (p .job)) (and-then ! (load ! (from ! (stop !)) (look ! 9 refl)) (and-then ! (load ! (from ! (fld ! refl (stop !))) (look-in ! 5 (sub ! 1 refl (whole !)))) (no-more !))) (λ u.
-        answers ! tt S.the-row (‵ (flft κ q) ⊛ ‵ ftrue) (ensured 𝓤 H A survey-in.ended (survey-in.clauses 𝓤 H A at-mem run) (κ, tt) (lent, (p .job, tt)) tt) (Surveyed (boundsOf t) (t .rows) (p .job)) u
-        (λ v. exE 𝓤 _ (λ ws. snd∗ 𝓤 (sem 𝓤 H A (lasts survey-in.ended (κ, tt) (lent, (p .job, tt)) ws)) (fact 𝓤 (Surveyed (boundsOf t) (t .rows) (p .job) v)))) (λ v surveyed is-v.
-        let seen = subst (λ (j : ℕ). Surveyed (boundsOf t) (t .rows) j v) (ap (λ (x : Parts). x .job) same) surveyed in
+        alloc1 ! (λ l₀. alloc1 ! (λ l₁. alloc1 ! (λ l₂. alloc1 ! (λ l₃. alloc1 ! (λ l₄. alloc0 ! $ params1 ! $
+        pass1 ! (init ! 6 refl (tt, tt)) $ pass1 ! (init ! 4 refl (EL.lawful Ev.the-type Ev′.the-laws 𝓤 H A W tt .typed e (Ev′.lowered e ∷ []) is-e .0)) $ pass0 ! $
+        -- [room for _4; …; room for _3; …; _2; …; _1; …; room for _0; …; the lent table; the lent table; the token]
+        move ! (12 ∷ 10 ∷ []) $ use2 W (raw (SurveyIn .pre to-survey)) (goes-to-survey is-e) $
+        calls-at ! fm SurveyIn surveys to-survey (and-then ! (load ! (from ! (stop !)) (look ! 7 refl)) (and-then ! (load ! (from ! (stop !)) (look ! 5 refl)) (no-more !))) (λ u.
+        answers ! tt S.the-row (‵ (flft κ q) ⊛ ‵ ftrue) (ensured 𝓤 H A survey-in.ended (survey-in.clauses 𝓤 H A at-mem run) (κ, tt) (lent, (e, tt)) tt) (Surveyed (boundsOf t) (t .rows) (jobOf e)) u
+        (λ v. exE 𝓤 _ (λ ws. snd∗ 𝓤 (sem 𝓤 H A (lasts survey-in.ended (κ, tt) (lent, (e, tt)) ws)) (fact 𝓤 (Surveyed (boundsOf t) (t .rows) (jobOf e) v)))) (λ v seen is-v.
         land ! (from ! (stop !)) (init ! 4 refl (LL.lawful S.the-type S′.the-laws 𝓤 H A W .typed v (u ∷ []) is-v .0)) $
-        rewrite ! 4 (λ (w : Val). ‵ (fat fullShare S′.mir l₄ 0 w)) (ap only (S′.lowers .val-is v (u ∷ []) is-v)) refl $ drop ! $
-        -- [the token; room for _5; …; _4; …; _3; …; _2; …; _1; …; room for _0; …; the lent table]
-        move ! (0 ∷ 13 ∷ []) $ asks-bounds 𝓤 H A at-mem run W κ q lent ! fm bounds (and-then ! (load ! (from ! (stop !)) (look ! 9 refl)) (no-more !)) (λ is-b.
+        rewrite ! 4 (λ (w : Val). ‵ (fat fullShare S′.mir l₃ 0 w)) (ap only (S′.lowers .val-is v (u ∷ []) is-v)) refl $ drop ! $
+        -- [the token; room for _4; …; _3; …; _2; …; _1; …; room for _0; …; the lent table]
+        move ! (0 ∷ 11 ∷ []) $ asks-bounds 𝓤 H A at-mem run W κ q lent ! fm bounds (and-then ! (load ! (from ! (stop !)) (look ! 7 refl)) (no-more !)) (λ is-b.
         land ! (from ! (stop !)) (init ! 1 refl (LL.lawful B.the-type B′.the-laws 𝓤 H A W .typed (boundsOf t) (B′.lowered (boundsOf t) ∷ []) is-b .0)) $
         let tokens = LL.owed B.the-type B′.the-laws (boundsOf t) (B′.lowered (boundsOf t) ∷ []) is-b .0 in
         nothing ! $ use1 W (raw (PutBy .pre (to-put v))) (goes-to-put v seen (subst (Is S.the-row v) (S′.lowers .val-is v _ is-v) is-v) tokens is-e) $
         calls-at ! fm PutBy puts-by (to-put v)
-        (and-then ! (load ! (from ! (stop !)) (look ! 4 refl)) (and-then ! (load ! (from ! (fld ! refl (stop !))) (look-in ! 2 (sub ! 0 refl (whole !)))) (and-then ! (load ! (from ! (stop !)) (look ! 8 refl)) (no-more !)))) (λ u.
+        (and-then ! (load ! (from ! (stop !)) (look ! 4 refl)) (and-then ! (load ! (from ! (fld ! refl (stop !))) (look-in ! 2 (sub ! 0 refl (whole !)))) (and-then ! (load ! (from ! (stop !)) (look ! 6 refl)) (no-more !)))) (λ u.
         answers ! tt P.the-row (‵ ftrue) (ensured 𝓤 H A put-by.ended (put-by.clauses 𝓤 H A at-mem run) tt (v, (t .tokens, (e, tt))) tt) (PutsBy v (t .tokens) e) u
         (λ p. exE 𝓤 _ (λ ws. snd∗ 𝓤 (sem 𝓤 H A (lasts put-by.ended tt (v, (t .tokens, (e, tt))) ws)) (fact 𝓤 (PutsBy v (t .tokens) e p)))) (λ p puts is-p.
-        -- [what is to be put; true; the token; _5; …; _4; …; _3; …; _2; …; _1; …; room for _0; …]
-        land ! (from ! (stop !)) (init ! 13 refl (LL.lawful P.the-type P′.the-laws 𝓤 H A W .typed p (u ∷ []) is-p .0)) $
-        returns ! (look ! 13 refl) $ forget ! 3 refl $ forget ! 5 refl $ forget ! 7 refl $ forget ! 9 refl $ forget ! 11 refl $ forget ! 13 refl $
-        move ! (13 ∷ 14 ∷ []) $ free1 ! $ move ! (11 ∷ 12 ∷ []) $ free1 ! $ move ! (9 ∷ 10 ∷ []) $ free1 ! $ move ! (7 ∷ 8 ∷ []) $ free1 ! $ move ! (5 ∷ 6 ∷ []) $ free1 ! $ move ! (3 ∷ 4 ∷ []) $ free1 ! $ free0 ! $
-        keep ! (2 ∷ 0 ∷ []) $ by ! (exits p u (puts t refl seen))))))))))))))))
+        -- [what is to be put; true; the token; _4; …; _3; …; _2; …; _1; …; room for _0; …]
+        land ! (from ! (stop !)) (init ! 11 refl (LL.lawful P.the-type P′.the-laws 𝓤 H A W .typed p (u ∷ []) is-p .0)) $
+        returns ! (look ! 11 refl) $ forget ! 3 refl $ forget ! 5 refl $ forget ! 7 refl $ forget ! 9 refl $ forget ! 11 refl $
+        move ! (11 ∷ 12 ∷ []) $ free1 ! $ move ! (9 ∷ 10 ∷ []) $ free1 ! $ move ! (7 ∷ 8 ∷ []) $ free1 ! $ move ! (5 ∷ 6 ∷ []) $ free1 ! $ move ! (3 ∷ 4 ∷ []) $ free1 ! $ free0 ! $
+        keep ! (2 ∷ 0 ∷ []) $ by ! (exits p u (puts t refl seen)))))))))))))
 
 pub weigh-spec : {M : Type 1} → statement M
 unfolding code.routine tablesOf
@@ -154,7 +129,6 @@ weigh-spec 𝓤 H 𝓜 𝓖 𝓡 =
     (λ κs. (ptr-vals, ((λ e. Ev′.lowered e ∷ []), tt))) (λ κs. (shr-tells (named 0) (κs .0) T.the-row, (Ev′.lowers .val-is, tt)))
     (λ κs qs bounds a g are. needs 𝓤 (about (a .1 .0) .wakes ≡ false) _ (λ quiet.
     walk 𝓤 H A W (𝓜 .mem) (𝓡 .run) (κs .0) (qs .0) (a .0 .ptr .0) (a .0 .ptr .1) (a .0 .name) (a .0 .now) (a .1 .0) quiet (𝓣 .C) (𝓣 .Λ) (fmOf 𝓤 H (W .laws) 𝓣)
-    (cited 𝓤 H (PartsOf 𝓤 H A W (𝓜 .mem) (𝓡 .run)) 𝓜 𝓡 code.env #parts-of parts-of-symbol.routine code.calls-event·parts-of (parts-of-met.met 𝓤 H 𝓜 𝓖 𝓡))
     (cited 𝓤 H (SurveyIn 𝓤 H A W (𝓜 .mem) (𝓡 .run)) 𝓜 𝓡 code.env #survey-in survey-in-symbol.routine code.calls-in-place·looking·survey-in (survey-in-met.met 𝓤 H 𝓜 𝓖 𝓡))
     (calls-bounds 𝓤 H 𝓜 𝓖 𝓡 code.env code.calls-in-place·looking·bounds-in)
     (cited 𝓤 H (PutBy 𝓤 H A W (𝓜 .mem) (𝓡 .run)) 𝓜 𝓡 code.env #put-by put-by-symbol.routine code.calls-in-place·putting·put-by (put-by-met.met 𝓤 H 𝓜 𝓖 𝓡))))))
