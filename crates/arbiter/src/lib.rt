@@ -1,4 +1,6 @@
 // The arbiter: a table of locking requests, the events that change it, and the answers to questions about it.
+#![tactic(auto)]
+
 mod calls;
 mod table;
 

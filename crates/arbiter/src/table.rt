@@ -5,7 +5,7 @@ use rows::{Row, Turn};
 
 // T, R, the waiting limit in ms, the true time, the last turn given, and a row for each job.
 #[repr(C)]
-#[derive(Drop)]
+#[derive(Clone, Copy)]
 pub struct Table {
     pub tokens: u32,
     pub resources: u32,
@@ -16,7 +16,7 @@ pub struct Table {
 }
 
 // An answer and the next table.
-#[derive(Drop)]
+#[derive(Clone, Copy)]
 pub struct Next {
     pub answer: Answer,
     pub table: Table,
@@ -24,7 +24,7 @@ pub struct Next {
 
 // What a report says about a live request.
 #[repr(C)]
-#[derive(Drop)]
+#[derive(Clone, Copy)]
 pub struct Report {
     pub turn: Turn,
     pub token: bool,
@@ -34,14 +34,14 @@ pub struct Report {
 }
 
 // The answer to a report.
-#[derive(Drop)]
+#[derive(Clone, Copy)]
 pub enum Reported {
     No(Refusal),
     Is(Report),
 }
 
 // How many jobs are overdue.
-#[derive(Drop)]
+#[derive(Clone, Copy)]
 pub enum Late {
     No(Refusal),
     Count(u32),

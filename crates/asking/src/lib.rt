@@ -1,4 +1,6 @@
 // The two questions about a table: the report of a job's request, and who is overdue.
+#![tactic(auto)]
+
 ghost use Rattle.arbiter.specs.Promises.{OverdueAnswered, ReportAnswered};
 
 use arbiter::{Late, Report, Reported, Table, bounds};

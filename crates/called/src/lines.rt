@@ -50,7 +50,7 @@ const ONE: Marks = *b" \0\0\0\0\0";
 pub const FIVE: Marks = *b"     \0";
 
 // A line: its word, and its numbers with their marks.
-#[derive(Drop)]
+#[derive(Clone, Copy)]
 pub struct Line {
     pub word: Word,
     pub marks: Marks,

@@ -13,7 +13,7 @@ use event::{Entry, Kind, Tick};
 use writing::Writing;
 
 // What is shown after the line of what a call says.
-#[derive(Drop)]
+#[derive(Clone, Copy)]
 pub enum Part {
     Nothing,
     List,
@@ -21,7 +21,7 @@ pub enum Part {
 }
 
 // What a call leaves: the line of what it says, the two parts after it, and the table.
-#[derive(Drop)]
+#[derive(Clone, Copy)]
 pub struct Left {
     pub line: Line,
     pub then: Part,

@@ -8,7 +8,7 @@ use event::{Kind, Known};
 const WRITING: u64 = 8;
 
 // A call: an event made, one of the two questions, a start made, or an event or a start written.
-#[derive(Drop)]
+#[derive(Clone, Copy)]
 pub enum Call {
     Event(Kind),
     Report,
@@ -19,7 +19,7 @@ pub enum Call {
 }
 
 // What a number asks for, if it is that of a call.
-#[derive(Drop)]
+#[derive(Clone, Copy)]
 pub enum Asked {
     Nothing,
     For(Call),

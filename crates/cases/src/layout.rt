@@ -75,7 +75,7 @@ const ROW_WIDTH: usize = SINCE_AT + WORD as usize;
 pub const CASE: usize = (ROWS_AT + JOBS * ROW_WIDTH) / 8;
 
 // A call's number, what is handed to the call, and how long the lent list is.
-#[derive(Drop)]
+#[derive(Clone, Copy)]
 pub struct Case {
     pub call: u8,
     pub job: u32,

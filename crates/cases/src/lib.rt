@@ -1,4 +1,6 @@
 // A case: its bytes, the call that its number asks for, and what it hands to that call.
+#![tactic(auto)]
+
 mod calls;
 mod handed;
 mod layout;

@@ -1,4 +1,6 @@
 // Text written into a lent buffer: a number's decimal text, or any.
+#![tactic(auto)]
+
 ghost use Rattle.std.specs.Prelude.{◌+◌, ◌≤◌, ◌≡◌, length};
 ghost use Rattle.laws.specs.Front.{Wrote};
 ghost use Rattle.decimal.specs.Text.{text};

@@ -2,7 +2,7 @@
 use event::Refusal;
 
 // The answer to an event. A later case goes at the end.
-#[derive(Drop)]
+#[derive(Clone, Copy)]
 pub enum Answer {
     No(Refusal),
     Token,

@@ -16,7 +16,7 @@ use verdict::{
 
 // What an accepted event changes: the answer, true time, the last turn, and the row of its job. Whom it wakes, and so the
 // answer to an event that may wake others, is found out along the line.
-#[derive(Drop)]
+#[derive(Clone, Copy)]
 pub struct Change {
     pub answer: Answer,
     pub time: u64,
@@ -25,7 +25,7 @@ pub struct Change {
 }
 
 // A refusal, or what changes.
-#[derive(Drop)]
+#[derive(Clone, Copy)]
 pub enum Decision {
     No(Refusal),
     Goes(Change),

@@ -1,4 +1,6 @@
 // What an event comes to, decided on numbers and one row.
+#![tactic(auto)]
+
 mod answer;
 mod deciding;
 

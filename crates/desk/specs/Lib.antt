@@ -1,2 +1,6 @@
--- What the proofs of this crate use.
+-- What is shown of a service file, and what the contracts of this crate say.
+pub mod Desk
+pub mod Determined
 pub mod Prelude
+pub mod Promises
+pub mod ShowLaws

@@ -16,11 +16,11 @@ const HOUR: u64 = 3_600_000;
 
 // The drive's millisecond counter. A type of its own, so that no turn can stand in its place.
 #[repr(C)]
-#[derive(Drop)]
+#[derive(Clone, Copy)]
 pub struct Tick(pub u32);
 
 // What a tick gives: why it is refused, or the next true time.
-#[derive(Drop)]
+#[derive(Clone, Copy)]
 pub enum Moment {
     No(Refusal),
     At(u64),

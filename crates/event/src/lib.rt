@@ -1,4 +1,6 @@
 // What the drive says to the arbiter, and the time, the limits and the refusals that go with it.
+#![tactic(auto)]
+
 mod clock;
 mod events;
 mod limits;

@@ -3,7 +3,7 @@ ghost use Rattle.std.specs.Prelude.{◌≡◌};
 ghost use Rattle.event.specs.Refusals.{number_of};
 
 // In the order of their numbers, 1 to 23; a later number goes at the end.
-#[derive(Drop)]
+#[derive(Clone, Copy)]
 pub enum Refusal {
     BadStart,
     ShortList,

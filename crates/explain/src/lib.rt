@@ -1,4 +1,6 @@
 // A record and its answer in words, as `bin/desk explain` prints them. For programs only.
+#![tactic(auto)]
+
 ghost use Rattle.std.specs.Prelude.{◌≤◌};
 
 use arbiter::Table;

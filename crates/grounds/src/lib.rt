@@ -1,5 +1,7 @@
 // The grounds on which an event is refused, each found from what its call sees: the tests of document 01's refusals in parts.
 // Each part tests in the order of the list.
+#![tactic(auto)]
+
 ghost use Rattle.std.specs.Prelude.{◌≡◌, eqb};
 ghost use Rattle.event.specs.Clock.{moment_of};
 ghost use Rattle.event.specs.Limits.{highest};

@@ -1,4 +1,6 @@
 // Who is in the way of what a job asked for.
+#![tactic(auto)]
+
 ghost use Rattle.std.specs.Prelude.{◌≤◌, length};
 ghost use Rattle.event.specs.Limits.{jobs};
 ghost use Rattle.line.specs.LineInCode.{Lines, Listed};
@@ -13,7 +15,7 @@ use pass::survey;
 use rows::{Row, Turn, earlier, live};
 
 // How many jobs were listed.
-#[derive(Drop)]
+#[derive(Clone, Copy)]
 pub enum Found {
     No(Refusal),
     Count(u32),

@@ -1,4 +1,6 @@
 // The events on a table that is lent: it is changed where it lies, and nothing of it is handed around.
+#![tactic(auto)]
+
 mod looking;
 mod putting;
 mod waking;

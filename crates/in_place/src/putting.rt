@@ -15,7 +15,7 @@ use pass::Survey;
 use rows::{Row, Turn, idle};
 
 // The answer to an event and, where it is accepted, what is written: true time, the last turn, and a row in its place.
-#[derive(Drop)]
+#[derive(Clone, Copy)]
 pub struct Put {
     pub goes: bool,
     pub told: EventAnswer,

@@ -18,7 +18,7 @@ use sweep::settle_in;
 
 // The answer to such an event where it is refused; where it is accepted, true time, whose row is written, the row, and the line
 // along which the others are looked at.
-#[derive(Drop)]
+#[derive(Clone, Copy)]
 pub struct Sweep {
     pub goes: bool,
     pub told: EventAnswer,

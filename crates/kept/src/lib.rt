@@ -1,1 +1,2 @@
 // No code: the theorems about the meanings stand in specs/.
+#![tactic(auto)]

@@ -55,7 +55,7 @@ map_set {Y = Y} f (y ∷ l) (suc i) x = ap (λ (m : List Y). f y ∷ m) (map_set
 -- what holds of each entry still holds with one of them replaced
 each_set :
     (R : RattleType) (xs : List R.Denot) (us : List Val) (i : ℕ) (x : R.Denot) (u : Val) →
-    shadow (Each R.Denot R.own xs us) → Is R x (u ∷ []) → shadow (Each R.Denot R.own (set xs i x) (set us i u))
+    shadow (Each R.Denot R.own_val xs us) → Is R x (u ∷ []) → shadow (Each R.Denot R.own_val (set xs i x) (set us i u))
 each_set R [] [] i x u all is = all
 each_set R [] (v ∷ us) i x u all is = absurd all
 each_set R (y ∷ xs) [] i x u all is = absurd all
@@ -64,7 +64,7 @@ each_set R (y ∷ xs) (v ∷ us) (suc i) x u all is = (all.0, each_set R xs us i
 
 -- an array with one entry replaced
 module _ (R : RattleType) (val : R.Denot → Val) (tells : Tells R (Is R) (λ x. val x ∷ [])) where
-  each_is : (xs : List R.Denot) (us : List Val) → shadow (Each R.Denot R.own xs us) → us ≡ map val xs
+  each_is : (xs : List R.Denot) (us : List Val) → shadow (Each R.Denot R.own_val xs us) → us ≡ map val xs
   each_is [] [] all = refl
   each_is [] (u ∷ us) all = absurd all
   each_is (x ∷ xs) [] all = absurd all
@@ -81,8 +81,8 @@ module _ (R : RattleType) (val : R.Denot → Val) (tells : Tells R (Is R) (λ x.
     map val (set xs i x),
     (
       (refl, length-set xs i x ∙ full),
-      subst (λ (vs : List Val). shadow (Each R.Denot R.own (set xs i x) vs)) (sym (map_set val xs i x))
-          (each_set R xs (map val xs) i x (val x) (subst (λ (vs : List Val). shadow (Each R.Denot R.own xs vs)) (each_is xs us all) all) is),
+      subst (λ (vs : List Val). shadow (Each R.Denot R.own_val (set xs i x) vs)) (sym (map_set val xs i x))
+          (each_set R xs (map val xs) i x (val x) (subst (λ (vs : List Val). shadow (Each R.Denot R.own_val xs vs)) (each_is xs us all) all) is),
     ),
   )
 

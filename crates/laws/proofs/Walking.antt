@@ -42,10 +42,10 @@ module _ {M : Type 1} {𝓤 : Ura M} {𝓛 : Logic 𝓤} {K : Type 0} {Γ : List
   pub answers_leaving :
       K → Soaks G → (R : RattleType) (back : Item 𝓤) (Says : R.Denot → SProp 𝓤) (left : Item 𝓤) (Said : R.Denot → Type 0) (u : Val) →
       ((r : R.Denot) → ent 𝓤 (Says r) (sep 𝓤 (mean 𝓛 left) (fact 𝓤 (Said r)))) →
-      ((r : R.Denot) → Said r → Is R r (u ∷ []) → Seq K 𝓛 (‵ (R.own r (u ∷ [])) ∷ back ∷ left ∷ Γ) G) →
-      Seq K 𝓛 (raw (H.⇛ (ex 𝓤 (λ (r : R.Denot). sep 𝓤 (sep 𝓤 (mean 𝓛 back) (sem 𝓛 (R.own r (u ∷ [])))) (Says r)))) ∷ Γ) G
+      ((r : R.Denot) → Said r → Is R r (u ∷ []) → Seq K 𝓛 (‵ (R.own_val r (u ∷ [])) ∷ back ∷ left ∷ Γ) G) →
+      Seq K 𝓛 (raw (H.⇛ (ex 𝓤 (λ (r : R.Denot). sep 𝓤 (sep 𝓤 (mean 𝓛 back) (sem 𝓛 (R.own_val r (u ∷ [])))) (Says r)))) ∷ Γ) G
   answers_leaving t soaks R back Says left Said u tells next =
-      use1 𝓛 (later (some (λ (r : R.Denot). (back ⊛ ‵ (R.own r (u ∷ []))) ⊛ raw (Says r)))) (id⊢ 𝓤 _) $ await t soaks $ pick t (λ r.
+      use1 𝓛 (later (some (λ (r : R.Denot). (back ⊛ ‵ (R.own_val r (u ∷ []))) ⊛ raw (Says r)))) (id⊢ 𝓤 _) $ await t soaks $ pick t (λ r.
       split t $ move t (1 ∷ []) $ use1 𝓛 (left ⊛ raw (fact 𝓤 (Said r))) (tells r) $ split t $ move t (1 ∷ []) $ heard t (Said r) (λ e.
       move t (1 ∷ []) $ split t $ move t (1 ∷ []) $ peeks t R (Is R) (shows 𝓛 R) r (u ∷ []) (λ is. next r e is)))
 
@@ -53,8 +53,8 @@ module _ {M : Type 1} {𝓤 : Ura M} {𝓛 : Logic 𝓤} {K : Type 0} {Γ : List
   pub answers :
       K → Soaks G → (R : RattleType) (back : Item 𝓤) (Says : R.Denot → SProp 𝓤) (Said : R.Denot → Type 0) (u : Val) →
       ((r : R.Denot) → ent 𝓤 (Says r) (fact 𝓤 (Said r))) →
-      ((r : R.Denot) → Said r → Is R r (u ∷ []) → Seq K 𝓛 (‵ (R.own r (u ∷ [])) ∷ back ∷ Γ) G) →
-      Seq K 𝓛 (raw (H.⇛ (ex 𝓤 (λ (r : R.Denot). sep 𝓤 (sep 𝓤 (mean 𝓛 back) (sem 𝓛 (R.own r (u ∷ [])))) (Says r)))) ∷ Γ) G
+      ((r : R.Denot) → Said r → Is R r (u ∷ []) → Seq K 𝓛 (‵ (R.own_val r (u ∷ [])) ∷ back ∷ Γ) G) →
+      Seq K 𝓛 (raw (H.⇛ (ex 𝓤 (λ (r : R.Denot). sep 𝓤 (sep 𝓤 (mean 𝓛 back) (sem 𝓛 (R.own_val r (u ∷ [])))) (Says r)))) ∷ Γ) G
   answers t soaks R back Says Said u tells next =
       answers_leaving t soaks R back Says (‵ ftrue) Said u (λ r. via 𝓤 (fact 𝓤 (Said r)) (tells r) (emp∗ 𝓤 (fact 𝓤 (Said r))))
       (λ r e is. move t (2 ∷ []) $ drop t $ next r e is)

@@ -1,4 +1,6 @@
 // The lines of a listing, put into a lent buffer piece by piece.
+#![tactic(auto)]
+
 ghost use Rattle.std.specs.Prelude.{◌+◌, ◌*◌, ◌≤◌, min, ◌++◌, ◌≡◌, length, take};
 ghost use Rattle.arbiter.specs.Answers.{said_of};
 ghost use Rattle.decimal.specs.Text.{ascii, text};

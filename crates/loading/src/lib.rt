@@ -1,4 +1,6 @@
 // A table out of its service file.
+#![tactic(auto)]
+
 ghost use Rattle.std.specs.Prelude.{◌+◌, ◌*◌, ◌≤◌, ◌≡◌, drop, length};
 ghost use Rattle.arbiter.specs.Sound.{sound};
 ghost use Rattle.fields.specs.Fields.{Fit};
@@ -18,7 +20,7 @@ use service::{FileHead, FileRow, HEAD, ROW, VERSION, head_in, row_in};
 
 // The rows of a file, each at the place of its job; whether each turn is above the one before and no job has two rows; and
 // whether a bit is set that must be 0.
-#[derive(Drop)]
+#[derive(Clone, Copy)]
 struct Taken {
     rows: [Row; JOBS],
     fits: bool,

@@ -1,6 +1,8 @@
 // What firmware in C or Rust links: the calls on a table, the writing of records and service files, under C's names and in C's
 // layout.
 // `norakkeun.h` beside this folder declares them again; that the two agree is shown by running, not proved.
+#![tactic(auto)]
+
 mod calls;
 mod files;
 mod lent;

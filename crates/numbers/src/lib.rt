@@ -1,4 +1,6 @@
 // Answers in numbers, since no enum passes the boundary: each begins with a refusal's number, or 0.
+#![tactic(auto)]
+
 ghost use Rattle.std.specs.Prelude.{◌≡◌};
 ghost use Rattle.arbiter.specs.Answers.{late_of, report_of, said_of};
 ghost use Rattle.saving.specs.Meaning.{saved_of};
@@ -25,7 +27,7 @@ const WOKE: u32 = 5;
 
 // The answer to an event, how many jobs it woke, and the next table.
 #[repr(C)]
-#[derive(Drop)]
+#[derive(Clone, Copy)]
 pub struct Told {
     pub refusal: u32,
     pub said: u32,
@@ -35,7 +37,7 @@ pub struct Told {
 
 // The answer to an event and how many jobs it woke, where the next table stands elsewhere.
 #[repr(C)]
-#[derive(Drop)]
+#[derive(Clone, Copy)]
 pub struct EventAnswer {
     pub refusal: u32,
     pub said: u32,
@@ -44,7 +46,7 @@ pub struct EventAnswer {
 
 // The report of a job's request; with a refusal all of it is 0.
 #[repr(C)]
-#[derive(Drop)]
+#[derive(Clone, Copy)]
 pub struct JobReport {
     pub refusal: u32,
     pub report: Report,
@@ -52,7 +54,7 @@ pub struct JobReport {
 
 // How many jobs are overdue; with a refusal, 0.
 #[repr(C)]
-#[derive(Drop)]
+#[derive(Clone, Copy)]
 pub struct LateJobs {
     pub refusal: u32,
     pub count: u32,
@@ -60,7 +62,7 @@ pub struct LateJobs {
 
 // How many bytes of the lent room are the service file; with a refusal, 0.
 #[repr(C)]
-#[derive(Drop)]
+#[derive(Clone, Copy)]
 pub struct SavedFile {
     pub refusal: u32,
     pub length: u32,

@@ -1,4 +1,6 @@
 // The page of a table: a line of its numbers, then a line for each live row, put into a lent room.
+#![tactic(auto)]
+
 ghost use Rattle.std.specs.Prelude.{◌+◌, ◌*◌, ◌≤◌, ◌++◌, ◌≡◌, length};
 ghost use Rattle.decimal.specs.Text.{ascii, text};
 ghost use Rattle.laws.specs.Front.{Wrote};
@@ -21,7 +23,7 @@ use rows::Row;
 pub const PAGE: usize = 132 + 130 * JOBS;
 
 // What putting a page gives: a refusal, or how many bytes it has.
-#[derive(Drop)]
+#[derive(Clone, Copy)]
 pub enum Shown {
     No(Refusal),
     Length(usize),

@@ -1,5 +1,7 @@
 // The public calls on any table, damaged ones too: reads cases one after the other, makes each one's call and prints
 // the answer and all that the call left behind. A case of no known call, or a cut one, ends it with `cut`.
+#![tactic(auto)]
+
 ghost use Rattle.std.specs.Prelude.{◌≤◌};
 
 use arbiter::Table;
@@ -8,7 +10,7 @@ use shown::{CUT, Room};
 use stream::Out;
 
 // What one case left: the output, and whether another may follow.
-#[derive(Drop)]
+#[derive(Clone, Copy)]
 struct After {
     out: Out,
     more: bool,

@@ -1,4 +1,6 @@
 // Questions that are answered along the line: who is in the way, and who is overdue.
+#![tactic(auto)]
+
 ghost use Rattle.std.specs.Prelude.{◌≤◌, true, ◌≡◌, length};
 ghost use Rattle.event.specs.Limits.{jobs};
 ghost use Rattle.line.specs.LineInCode.{Lines, Listed};

@@ -1,4 +1,6 @@
 // Replays a recording: standard input holds it, standard output gets its listing, block by block.
+#![tactic(auto)]
+
 use blocks::Lines;
 use listing::Replay;
 

@@ -1,5 +1,7 @@
 // What is decided of one request, from numbers and its row: what an accepted event makes of the row, whether it wakes and
 // whether it is late; and what a call sees of a table.
+#![tactic(auto)]
+
 mod change;
 mod seen;
 

@@ -3,7 +3,7 @@ use rows::{Row, Turn};
 
 // What a call about a job sees of a table: whether it is sound, the numbers that refusals go by, the job's row, and
 // whether its turn holds a token.
-#[derive(Drop)]
+#[derive(Clone, Copy)]
 pub struct Seen {
     pub sound: bool,
     pub resources: u32,

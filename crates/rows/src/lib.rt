@@ -1,4 +1,6 @@
 // The rows of a table, and the one order among them: the order of opening.
+#![tactic(auto)]
+
 mod row;
 mod scan;
 mod stand;

@@ -4,12 +4,12 @@ ghost use Rattle.rows.specs.Order.{idle, live};
 
 // A request's place in the order of opening. A type of its own, so that no tick can be taken for one.
 #[repr(C)]
-#[derive(Drop)]
+#[derive(Clone, Copy)]
 pub struct Turn(pub u64);
 
 // What is kept of a job's request. Turn 0 makes the row idle.
 #[repr(C)]
-#[derive(Drop)]
+#[derive(Clone, Copy)]
 pub struct Row {
     pub turn: Turn,
     pub declared: u64,

@@ -8,7 +8,7 @@ use crate::row::{Row, live};
 use laws::sets;
 
 // What is known of a turn: how many live rows stand before it, and all that those declare.
-#[derive(Drop)]
+#[derive(Clone, Copy)]
 pub struct Standing {
     pub ahead: u32,
     pub claims: u64,

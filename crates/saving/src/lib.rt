@@ -1,4 +1,6 @@
 // A table into its service file.
+#![tactic(auto)]
+
 ghost use Rattle.std.specs.Prelude.{◌*◌, ◌≤◌, ◌≡◌, length};
 ghost use Rattle.service.specs.File.{head_of, row_size, rows_bytes, rows_said, say_row};
 ghost use Rattle.laws.specs.Front.{over};
@@ -14,7 +16,7 @@ use rows::Row;
 use service::{FileHead, FileRow, HEAD, ROW, VERSION, put_head, put_row};
 
 // What saving gives: a refusal, or how many bytes the file has.
-#[derive(Drop)]
+#[derive(Clone, Copy)]
 pub enum Saved {
     No(Refusal),
     Length(u32),

@@ -16,7 +16,7 @@ pub const HEAD_WIDTHS: [u32; 8] = [4, 6, 6, 32, 63, 63, 7, 3];
 pub const ROW_WIDTHS: [u32; 7] = [6, 63, 64, 64, 64, 63, 4];
 
 // What the head of a file says, field by field; T and R are said as T-1 and R-1.
-#[derive(Drop)]
+#[derive(Clone, Copy)]
 pub struct FileHead {
     pub version: u64,
     pub tokens: u64,
@@ -29,7 +29,7 @@ pub struct FileHead {
 }
 
 // What a row of a file says, field by field.
-#[derive(Drop)]
+#[derive(Clone, Copy)]
 pub struct FileRow {
     pub job: u64,
     pub turn: u64,

@@ -1,4 +1,6 @@
 // The service file: its head and its rows, each read and written as a list of fields.
+#![tactic(auto)]
+
 mod format;
 mod parts;
 

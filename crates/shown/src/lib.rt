@@ -1,4 +1,6 @@
 // How the program probe shows what a call leaves: the line of what it says, the lent list and the table.
+#![tactic(auto)]
+
 mod print;
 mod tables;
 

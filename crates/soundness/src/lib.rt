@@ -1,4 +1,6 @@
 // Whether numbers and rows are sound: the conditions of document 01, "What a table holds".
+#![tactic(auto)]
+
 ghost use Rattle.std.specs.Prelude.{◌&&◌, ◌≡◌};
 ghost use Rattle.laws.specs.Lists.{holds};
 ghost use Rattle.laws.specs.Sets.{meets};
@@ -10,7 +12,7 @@ use laws::sets::{inside, meets, union};
 use rows::{Row, Standing, Turn, earlier, token};
 
 // The numbers of a table.
-#[derive(Drop)]
+#[derive(Clone, Copy)]
 pub struct Bounds {
     pub tokens: u32,
     pub resources: u32,

@@ -1,4 +1,6 @@
 // A table after a record, as `bin/desk at` prints it. For programs only.
+#![tactic(auto)]
+
 ghost use Rattle.std.specs.Prelude.{◌≤◌};
 ghost use Rattle.event.specs.Limits.{jobs};
 

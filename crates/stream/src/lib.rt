@@ -1,5 +1,7 @@
 // Standard input and standard output of the programs. Bytes come in whole pieces; text and numbers go out through a
 // room that the program lends, so that the system is called once for many of them.
+#![tactic(auto)]
+
 mod input;
 mod print;
 

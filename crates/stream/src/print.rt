@@ -7,7 +7,7 @@ use libc::STDOUT_FILENO;
 
 // How many bytes wait at the front of the room, and how many writes failed: after the first nothing is written any more.
 // A program begins with 0 and 0.
-#[derive(Drop)]
+#[derive(Clone, Copy)]
 pub struct Out {
     pub at: usize,
     pub failures: u32,

@@ -1,4 +1,6 @@
 // Along the line: what an event that may wake others makes of the rows, and whom it wakes.
+#![tactic(auto)]
+
 mod settling;
 
 pub use settling::{Swept, settle, settle_in};

@@ -15,21 +15,21 @@ use rows::{Row, Standing, behind, front, live};
 use soundness::Bounds;
 
 // The rows after such an event, and how many jobs it woke.
-#[derive(Drop)]
+#[derive(Clone, Copy)]
 pub struct Swept {
     pub rows: [Row; JOBS],
     pub count: u32,
 }
 
 // What stands before the first in line, and whether the line moves up.
-#[derive(Drop)]
+#[derive(Clone, Copy)]
 pub struct Begun {
     pub s: Standing,
     pub up: bool,
 }
 
 // What passing one job comes to: its row, what stands before the next, and whether it woke.
-#[derive(Drop)]
+#[derive(Clone, Copy)]
 pub struct Passed {
     pub row: Row,
     pub s: Standing,

@@ -1,17 +1,19 @@
 // The program for service files. `table show` prints what the service file on standard input says; `table save` writes
 // the service file of the table that the recording on standard input leads to.
+#![tactic(auto)]
+
 ghost use Rattle.std.specs.Prelude.{true, ◌↔◌, ◌≡◌};
 
 use arbiter::Table;
 use blocks::Lines;
 use decision::Answer;
+use desk::put_refusal;
 use event::Refusal;
 use libc::STDERR_FILENO;
 use listing::Replay;
 use page::{PAGE, Shown};
 use record::SIZE;
 use saving::Saved;
-use showing::put_refusal;
 use stage::{Stage, begin};
 use stream::Out;
 
@@ -50,7 +52,7 @@ fn show() {
         return;
     }
     let mut room = [0u8; PAGE];
-    let shown = showing::show(&file[..piece.count], &mut room);
+    let shown = desk::show(&file[..piece.count], &mut room);
     match shown {
         Shown::No(_) => {}
         Shown::Length(count) => print(&room, count),

@@ -1,4 +1,6 @@
 // The line and the declared sets, kept up to date from event to event: whoever keeps them need not look at all rows.
+#![tactic(auto)]
+
 ghost use Rattle.std.specs.Prelude.{◌<◌, ◌≤◌, cond, true, ◌≡◌, length, take};
 ghost use Rattle.event.specs.Limits.{jobs};
 ghost use Rattle.line.specs.Placing.{Below};

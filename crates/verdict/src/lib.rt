@@ -1,5 +1,7 @@
 // Why an event is refused: for each kind of event its grounds, put together in the order of the list. A later part is asked
 // only where the earlier ones accept.
+#![tactic(auto)]
+
 ghost use Rattle.std.specs.Prelude.{◌≡◌};
 ghost use Rattle.event.specs.Clock.{moment_of};
 ghost use Rattle.event.specs.declared.events.Kind.TheVariants.{Ask, Beat, Complete, GiveUp, Open, Release};

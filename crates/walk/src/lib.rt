@@ -1,4 +1,6 @@
 // The walk along the line.
+#![tactic(auto)]
+
 ghost use Rattle.std.specs.Prelude.{◌<◌, ◌≡◌};
 ghost use Rattle.event.specs.Limits.{jobs};
 ghost use Rattle.line.specs.LineInCode.{Lines};
@@ -13,7 +15,7 @@ use soundness::{Bounds, live_sound};
 
 // Whether the live rows are sound; if so, the row of the job that was looked for and what stands before it. The row of a
 // job that has no request is idle.
-#[derive(Drop)]
+#[derive(Clone, Copy)]
 pub struct Walked {
     pub sound: bool,
     pub standing: Standing,
@@ -22,7 +24,7 @@ pub struct Walked {
 
 // How far a walk has come: what stands before the next job, what was found of the job that is looked for, the last turn passed,
 // and whether all rows so far are sound. Where they are not, the rest is never looked at.
-#[derive(Drop)]
+#[derive(Clone, Copy)]
 struct Pace {
     s: Standing,
     standing: Standing,

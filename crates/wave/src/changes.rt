@@ -12,7 +12,7 @@ use stream::Out;
 use words::at_most;
 
 // A dump: the output, how many records had the true time of the last one, and how many were refused.
-#[derive(Drop)]
+#[derive(Clone, Copy)]
 pub struct Trace {
     pub out: Out,
     pub here: u64,

@@ -10,7 +10,7 @@ use stream::Out;
 const DIGITS: usize = 64;
 
 // What a dump shows of a job.
-#[derive(Drop)]
+#[derive(Clone, Copy)]
 pub struct View {
     pub state: u64,
     pub declared: u64,

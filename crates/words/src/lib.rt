@@ -1,4 +1,6 @@
 // What the desk's program says in words: sets, lists of jobs, events and refusals. For programs only.
+#![tactic(auto)]
+
 mod entries;
 mod lists;
 mod refusals;

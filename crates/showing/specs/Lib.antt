@@ -1,6 +1,0 @@
--- What is shown of a service file, and what the contracts of this crate say.
-pub mod Showing
-pub mod Determined
-pub mod Prelude
-pub mod Promises
-pub mod ShowLaws
