@@ -3,7 +3,7 @@ use Rattle.upkeep.specs.Prelude.{Bool, Standing, ◌+◌, ◌<◌, ◌∙◌, �
 use Rattle.upkeep.specs.Upkeep.{standing_in}
 use Rattle.upkeep.proofs.Loops.{from_here, standing_here, standing_next, standing_none}
 use Rattle.upkeep.proofs.standing_of.Goals as goal
-use Rattle.upkeep.proofs.standing_of.Goals.{After-other-1, Else-not-live}
+use Rattle.upkeep.proofs.standing_of.Goals.{Else-not-live, In-loop-p}
 
 -- a row that is no request
 pub returns-then-not-live : goal.returns-then-not-live
@@ -22,21 +22,21 @@ told c s is =
     is ∙ ap (λ (b : Bool). cond b (standing_in a.declared.now a.job front (take a.len a.line.now)) front) (sym alive)
 
 -- while the loop goes on, p is a place in line
-within : (c : After-other-1) → let a = c.args in
+within : (c : In-loop-p) → let a = c.args in
     c.loop-p.p < length (take a.len a.line.now)
 within c =
     let a = c.args in
     omega (arith, length-take-le a.len a.line.now (omega arith))
 
 -- the entry at p is that of the line
-entry : (c : After-other-1) → let a = c.args in
+entry : (c : In-loop-p) → let a = c.args in
     get_or (take a.len a.line.now) c.loop-p.p 0 ≡ get_or a.line.now c.loop-p.p 0
 entry c =
     let a = c.args in
     get_or-take a.len a.line.now c.loop-p.p 0 (omega arith)
 
 -- and a job
-other-below : (c : After-other-1) → get_or c.args.line.now c.loop-p.p 0 < jobs
+other-below : (c : In-loop-p) → get_or c.args.line.now c.loop-p.p 0 < jobs
 other-below c =
     omega (arith, c.requires.len_le_jobs.1 c.loop-p.p (within c), entry c)
 
@@ -46,7 +46,7 @@ returns-then-other-job c =
     let l = at.loop-p in
     let a = at.args in
     told (goal.at.returns-then-other-job c).Else-not-live _
-    (sym (standing_here a.declared.now a.job (take a.len a.line.now) l.p l.claims (within (goal.at.returns-then-other-job c).After-other-1) (entry (goal.at.returns-then-other-job c).After-other-1 ∙ c.if-other-job.true))
+    (sym (standing_here a.declared.now a.job (take a.len a.line.now) l.p l.claims (within (goal.at.returns-then-other-job c).In-loop-p) (entry (goal.at.returns-then-other-job c).In-loop-p ∙ c.if-other-job.true))
     ∙ l.invariant.1)
 
 pub loop-p-preserved : goal.loop-p-preserved
@@ -56,10 +56,10 @@ loop-p-preserved c =
     let a = at.args in
     let line = take a.len a.line.now in
     let declared = a.declared.now in
-    let claims = c.union-claims.ensures ∙ ap (λ (j : ℕ). union l.claims (get_or declared j 0)) (sym (entry (goal.at.loop-p-preserved c).After-other-1)) in (
+    let claims = c.union-claims.ensures ∙ ap (λ (j : ℕ). union l.claims (get_or declared j 0)) (sym (entry (goal.at.loop-p-preserved c).In-loop-p)) in (
       omega arith,
       ap (from_here declared a.job line (l.p + 1)) claims
-          ∙ sym (standing_next declared a.job line l.p l.claims (within (goal.at.loop-p-preserved c).After-other-1) (λ e. c.if-other-job.false (sym (entry (goal.at.loop-p-preserved c).After-other-1) ∙ e)))
+          ∙ sym (standing_next declared a.job line l.p l.claims (within (goal.at.loop-p-preserved c).In-loop-p) (λ e. c.if-other-job.false (sym (entry (goal.at.loop-p-preserved c).In-loop-p) ∙ e)))
           ∙ l.invariant.1,
     )
 
@@ -82,13 +82,13 @@ pub overflow_cast-result : goal.overflow_cast-result
 overflow_cast-result c = omega arith
 
 pub overflow_cast-other : goal.overflow_cast-other
-overflow_cast-other c = omega (arith, other-below (goal.at.overflow_cast-other c).After-other-1)
+overflow_cast-other c = omega (arith, other-below (goal.at.overflow_cast-other c).In-loop-p)
 
 pub offset_bounds-declared-other : goal.offset_bounds-declared-other
-offset_bounds-declared-other c = omega (arith, other-below (goal.at.offset_bounds-declared-other c).After-other-1)
+offset_bounds-declared-other c = omega (arith, other-below (goal.at.offset_bounds-declared-other c).In-loop-p)
 
 pub bounds-declared-other : goal.bounds-declared-other
-bounds-declared-other c = other-below (goal.at.bounds-declared-other c).After-other-1
+bounds-declared-other c = other-below (goal.at.bounds-declared-other c).In-loop-p
 
 pub overflow_add-p : goal.overflow_add-p
 overflow_add-p c = omega arith
