@@ -38,19 +38,17 @@ bounds-rows-job c = job-fits (goal.at.bounds-rows-job c).In-loop-p
 
 pub overflow_add-n : goal.overflow_add-n
 overflow_add-n c =
-    let start = c in
-    omega (arith, counting_fits c.loop-p.invariant, start.requires.number, fits (goal.at.overflow_add-n c).Start)
+    omega (arith, counting_fits c.loop-p.invariant, c.requires.number, fits (goal.at.overflow_add-n c).Start)
 
 pub loop-p-preserved : goal.loop-p-preserved
 loop-p-preserved c =
-    let start = c in
     let l = c.loop-p in
-    let rows = start.args.rows in
-    let job = get_or start.args.line.jobs l.p 0 in
-    let test : claims_ahead rows start.args.turn.0 start.args.s job ≡ (c.earlier.result && c.meets.result) =
+    let rows = c.args.rows in
+    let job = get_or c.args.line.jobs l.p 0 in
+    let test : claims_ahead rows c.args.turn.0 c.args.s job ≡ (c.earlier.result && c.meets.result) =
     sym (λ i. c.earlier.ensures i && c.meets.ensures i) in
-    let placed : l.p < length (line rows) = omega (arith, start.requires.number) in
-    let here = job_here rows start.requires l.p (omega arith) in
+    let placed : l.p < length (line rows) = omega (arith, c.requires.number) in
+    let here = job_here rows c.requires l.p (omega arith) in
     elim c.if-earlier-meets.branch [
       | then-earlier-meets w ↦ rw w.n-is (counting_one l.invariant job placed here (test ∙ w.if-earlier-meets.true))
       | else-earlier-meets w ↦ rw w.n-is (counting_none l.invariant job placed here (test ∙ w.if-earlier-meets.false))
@@ -58,9 +56,8 @@ loop-p-preserved c =
 
 pub returns : goal.returns
 returns c =
-    let start = c in
-    counting_end c.loop-p.invariant (omega (arith, start.requires.number))
-    ∙ in_way_line start.args.rows start.args.turn.0 start.args.s
+    counting_end c.loop-p.invariant (omega (arith, c.requires.number))
+    ∙ in_way_line c.args.rows c.args.turn.0 c.args.s
 
 pub overflow_add-p : goal.overflow_add-p
 overflow_add-p c = omega arith

@@ -45,17 +45,16 @@ bounds-late-n c = omega (arith, fits (goal.at.bounds-late-n c).Start)
 
 pub loop-p-preserved : goal.loop-p-preserved
 loop-p-preserved c =
-    let start = c in
     let l = c.loop-p in
     let from = c.in_time_from-from.result in
-    let rows = start.args.rows in
-    let b = start.args.b in
-    let lines = start.requires.lines.0 in
-    let job = get_or start.args.line.jobs l.p 0 in
+    let rows = c.args.rows in
+    let b = c.args.b in
+    let lines = c.requires.lines.0 in
+    let job = get_or c.args.line.jobs l.p 0 in
     let placed : l.p < length (line rows) = omega (arith, lines.number) in
     let here = job_here rows lines l.p (omega arith) in
     let test : waits_before b.tokens from rows job ≡ c.is_late.result =
-    late_place b.tokens from rows (sound_distinct b rows start.requires.lines.1) l.p job placed here
+    late_place b.tokens from rows (sound_distinct b rows c.requires.lines.1) l.p job placed here
     ∙ sym c.is_late.ensures in (
       elim c.if-is_late.branch [
         | then-is_late w ↦ rw (w.n-is, w.late-is) (writing_written l.invariant.0 job placed here (test ∙ w.if-is_late.true) (omega (arith, fits (goal.at.loop-p-preserved c).Start)))
@@ -70,15 +69,14 @@ overflow_cast-result c = omega (arith, fits (goal.at.overflow_cast-result c).Sta
 pub returns : goal.returns
 unfolding late_in keep
 returns c =
-    let start = c in
     let l = c.loop-p in
     let from = c.in_time_from-from in
-    let b = start.args.b in
-    let rows = start.args.rows in
-    subst (λ (f : ℕ → Bool). Listed (keep f (line rows)) start.args.late.now l.n l.late)
+    let b = c.args.b in
+    let rows = c.args.rows in
+    subst (λ (f : ℕ → Bool). Listed (keep f (line rows)) c.args.late.now l.n l.late)
     (ap (λ (n : ℕ). waits_before b.tokens n rows) from.ensures
-    ∙ late_before b.tokens b.limit start.args.time rows (sound_limit b rows start.requires.lines.1))
+    ∙ late_before b.tokens b.limit c.args.time rows (sound_limit b rows c.requires.lines.1))
     (writing_done l.invariant.0
     (ap (keep (waits_before b.tokens from.result rows))
-    (drop_of_length-le (line rows) {i = l.p} (omega (arith, start.requires.lines.0.number))))
+    (drop_of_length-le (line rows) {i = l.p} (omega (arith, c.requires.lines.0.number))))
     (omega (arith, fits (goal.at.returns c).Start)))

@@ -42,18 +42,16 @@ other-below c =
 
 pub returns-then-other-job : goal.returns-then-other-job
 returns-then-other-job c =
-    let at = c in
-    let l = at.loop-p in
-    let a = at.args in
+    let l = c.loop-p in
+    let a = c.args in
     told (goal.at.returns-then-other-job c).Else-not-live _
     (sym (standing_here a.declared.now a.job (take a.len a.line.now) l.p l.claims (within (goal.at.returns-then-other-job c).In-loop-p) (entry (goal.at.returns-then-other-job c).In-loop-p ∙ c.if-other-job.true))
     ∙ l.invariant.1)
 
 pub loop-p-preserved : goal.loop-p-preserved
 loop-p-preserved c =
-    let at = c in
-    let l = at.loop-p in
-    let a = at.args in
+    let l = c.loop-p in
+    let a = c.args in
     let line = take a.len a.line.now in
     let declared = a.declared.now in
     let claims = c.union-claims.ensures ∙ ap (λ (j : ℕ). union l.claims (get_or declared j 0)) (sym (entry (goal.at.loop-p-preserved c).In-loop-p)) in (
