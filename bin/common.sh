@@ -31,7 +31,7 @@ install_package() { # PACKAGE [OPTION..]
 }
 
 # Sets 'kit', 'tools', its toolchain, 'loader', which runs the kit's programs, and 'emulator', which is empty on x86-64:
-# the kit and its programs are for that, and elsewhere run under an emulator of the machine's own (Debian: qemu-user).
+# the kit and its programs are for that, and elsewhere run under an emulator of the machine's own.
 find_kit() {
     local rt
     need_rt
@@ -41,7 +41,8 @@ find_kit() {
     loader=$tools/lib/ld-linux-x86-64.so.2 emulator=''
     [[ -x $loader ]] || fail "the kit has no loader at $loader"
     [[ $(uname -m) != x86_64 ]] || return 0
-    emulator=$(command -v qemu-x86_64) || fail "there is no emulator for x86-64 (Debian: apt-get install qemu-user)"
+    emulator=$(command -v qemu-x86_64-static || command -v qemu-x86_64) ||
+        fail "there is no emulator for x86-64 (Debian: apt-get install qemu-user-static)"
 }
 
 # The independent model, as target/model/release/model.
