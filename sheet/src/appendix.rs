@@ -41,7 +41,7 @@ impl Sheet<'_> {
              machine proved the same files, and its functions and axioms stand in the output of that run.",
         );
         let counts = [">functions", ">src", ">specs", ">proofs", ">axioms", ">edits refused"];
-        let mut table = Table::new(&[&["crate", "result"], &counts[..], &["kit libraries"]].concat());
+        let mut table = Table::new(&[&["crate", "result"], &counts[..], &["kit libraries beside std"]].concat());
         let mut sums = [0; 4];
         for item in &self.tree.crates {
             let numbers = self.numbers_of(item);
