@@ -3,6 +3,8 @@ ghost use Rattle.std.specs.Prelude.{◌≤◌, length};
 ghost use Rattle.decimal.specs.Text.{text as decimal};
 ghost use Rattle.stream.specs.Printing.{Flushed, Printed, Ready};
 
+use std::io::ErrorKind;
+
 // How many bytes wait at the front of the room, and how many writes failed: after the first nothing is written any more.
 // A program begins with 0 and 0.
 #[derive(Clone, Copy)]
@@ -11,7 +13,8 @@ pub struct Out {
     pub failures: u32,
 }
 
-// Writes the bytes, unless a write failed before. A failure is said on standard error.
+// Writes the bytes, unless a write failed before. A failure is said on standard error, but for a reader that has gone away:
+// that is no fault.
 fn hand_over(rt: &(impl Print + Eprint), failures: u32, bytes: &[u8]) -> u32
     ensures { failures ≤ result }
 {
@@ -21,7 +24,9 @@ fn hand_over(rt: &(impl Print + Eprint), failures: u32, bytes: &[u8]) -> u32
     match rt.write_all(bytes) {
         Ok(()) => 0,
         Err(error) => {
-            let _ = eprintln!(rt; "standard output: {error}");
+            if error.kind() != ErrorKind::BrokenPipe {
+                let _ = eprintln!(rt; "standard output: {error}");
+            }
             1
         }
     }
