@@ -4,7 +4,6 @@ use Rattle.event.specs.Refusals.{number_of}
 use Rattle.event.specs.declared.refusal.Refusal.{Refusal}
 use Rattle.laws.specs.Cases.{fine, refused}
 use Rattle.arbiter.specs.Answers.{Said, said_of}
-use Rattle.arbiter.specs.Meaning.{answer}
 use Rattle.arbiter.specs.declared.table.Next.{Next}
 use Rattle.arbiter.specs.declared.table.Table.{Table}
 

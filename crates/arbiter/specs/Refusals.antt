@@ -1,5 +1,4 @@
 -- When a call on a table is refused: the cases of each call, in order.
-use Rattle.arbiter.specs.Prelude.{token}
 use Rattle.std.specs.Prelude.{ℕ, Bool, cond, not, List, [], ◌∷◌, ◌++◌, ltb}
 use Rattle.event.specs.Clock.{clock_refusals}
 use Rattle.event.specs.Events.{about, refusals_of, job_of, set_of, tick_of}

@@ -111,8 +111,8 @@ pub walk_later :
     Each (λ j. (0 < (row_of rows j).turn.0) × (s.ahead ≤ ahead rows (row_of rows j).turn.0)) left
 walk_later [] w i within = absurd (not-suc-le-zero within)
 walk_later (j ∷ left) w zero within = (walk_alive w, omega (arith, (walk_stands w).before))
-walk_later (j ∷ left) w (suc i) within =
-    let later = walk_later left (walk_step w) i (le_of_suc-le-suc within) in
+walk_later {rows = rows} {s = s} (j ∷ left) w (suc i) within =
+    let later = walk_later {s = behind s (row_of rows j)} left (walk_step w) i (le_of_suc-le-suc within) in
     (later.0, omega (arith, later.1))
 
 -- a job's place after here is how many more stand before it
@@ -121,8 +121,8 @@ walk_places :
     (0 < (row_of rows (get_or left i 0)).turn.0) × (ahead rows (row_of rows (get_or left i 0)).turn.0 ≡ s.ahead + i)
 walk_places [] w i within = absurd (not-suc-le-zero within)
 walk_places (j ∷ left) w zero within = (walk_alive w, omega (arith, (walk_stands w).before))
-walk_places (j ∷ left) w (suc i) within =
-    let later = walk_places left (walk_step w) i (le_of_suc-le-suc within) in
+walk_places {rows = rows} {s = s} (j ∷ left) w (suc i) within =
+    let later = walk_places {s = behind s (row_of rows j)} left (walk_step w) i (le_of_suc-le-suc within) in
     (later.0, omega (arith, later.1))
 
 -- a job's place in line is how many stand before it

@@ -116,7 +116,7 @@ unfolding course
 waits_run real w [] q = w
 waits_run {x = x} real {t} w (e ∷ es) q =
     let still = blocked_back (next jobs t e) (along_next w.bears.along e) x es q in
-    waits_run real (waits_on real w e still) es q
+    waits_run real {t = next jobs t e} (waits_on real w e still) es q
 
 -- ---- The ask
 

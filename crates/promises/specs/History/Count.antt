@@ -28,7 +28,7 @@ module _ {T n : ℕ} {t : Table} (along : Along T n t) where
 pub along_run : {T n : ℕ} {t : Table} → Along T n t → (es : List Event) → Along T n (run t es)
 unfolding course
 along_run along [] = along
-along_run along (e ∷ es) = along_run (along_next along e) es
+along_run {t = t} along (e ∷ es) = along_run {t = next jobs t e} (along_next along e) es
 
 -- ---- How many stand before turn n: as many as there were, less those that completed
 

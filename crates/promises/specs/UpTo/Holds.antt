@@ -158,5 +158,5 @@ pub up_to_agrees :
 unfolding course TakenAlike
 up_to_agrees along-t along-u sound-t sound-u a [] alike = a
 up_to_agrees {t = t} {u = u} along-t along-u sound-t sound-u a (e ∷ es) alike =
-    up_to_agrees (along_next along-t e) (along_next along-u e) (next_sound jobs t e sound-t) (next_sound jobs u e sound-u)
+    up_to_agrees {t = next jobs t e} {u = next jobs u e} (along_next along-t e) (along_next along-u e) (next_sound jobs t e sound-t) (next_sound jobs u e sound-u)
     ((up_to_decides along-t along-u sound-t sound-u a e).agree alike.0) es alike.1

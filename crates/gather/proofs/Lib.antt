@@ -1,2 +1,0 @@
--- What the walks over lent rows share.
-mod Walk
