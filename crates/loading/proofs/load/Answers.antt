@@ -37,32 +37,32 @@ module _ (c : After-take_rows-taken) where
   abbrev bytes : List ℕ
   bytes = c.args.file.now
 
-  abbrev headRead : FileHead
-  headRead = c.head_in-head.result
+  abbrev head_read : FileHead
+  head_read = c.head_in-head.result
 
-  is-head : headRead ≡ head_in bytes
+  is-head : head_read ≡ head_in bytes
   is-head = c.head_in-head.ensures.is
 
   sized : wrong_size bytes ≡ false
-  sized = right_size bytes headRead is-head c.if-file-lt-HEAD.false c.if-head-ne-VERSION.false c.if-file-count.false
+  sized = right_size bytes head_read is-head c.if-file-lt-HEAD.false c.if-head-ne-VERSION.false c.if-file-count.false
 
   one : known bytes ≡ true
-  one = is_known bytes headRead is-head c.if-file-lt-HEAD.false c.if-head-ne-VERSION.false
+  one = is_known bytes head_read is-head c.if-file-lt-HEAD.false c.if-head-ne-VERSION.false
 
-  zeros : (ltb 0 headRead.zero || c.take_rows-taken.result.stray) ≡ bit_set bytes
-  zeros = zeros_tested bytes headRead is-head _ _ _ c.take_rows-taken.ensures
+  zeros : (ltb 0 head_read.zero || c.take_rows-taken.result.stray) ≡ bit_set bytes
+  zeros = zeros_tested bytes head_read is-head _ _ _ c.take_rows-taken.ensures
 
 pub returns-then-head-taken : goal.returns-then-head-taken
 returns-then-head-taken c =
-    let t = c in
+    let t = (goal.at.returns-then-head-taken c).After-take_rows-taken in
     gives (bytes t) c.refused-then-head-taken.ensures (past (sized t) (past (ap not (one t)) (this (sym (zeros t) ∙ c.if-head-taken.true)))) refl refl
 
 pub returns : goal.returns
 returns c =
-    let t = c in
-    let takes = t.take_rows-taken.ensures in
-    judged_loads (bytes t) (headRead t) (is-head t) _ _ _ takes (sized t) (one t) (sym (zeros t) ∙ c.if-head-taken.false)
-    c.table_of.result (c.table_of.ensures ∙ table_read_lem (bytes t) (headRead t) (is-head t) _ _ _ takes) c.judged.ensures
+    let t = (goal.at.returns c).After-take_rows-taken in
+    let takes = c.take_rows-taken.ensures in
+    judged_loads (bytes t) (head_read t) (is-head t) _ _ _ takes (sized t) (one t) (sym (zeros t) ∙ c.if-head-taken.false)
+    c.table_of.result (c.table_of.ensures ∙ table_read_lem (bytes t) (head_read t) (is-head t) _ _ _ takes) c.judged.ensures
 
 pub overflow_mul-count : goal.overflow_mul-count
 overflow_mul-count c = omega (arith, c.head_in-head.ensures.fits)

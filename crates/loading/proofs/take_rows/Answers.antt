@@ -5,17 +5,14 @@ use Rattle.service.specs.PlacingLaws.{rows_jobs, rows_left}
 use Rattle.loading.specs.LoadingLaws.{taking_end, taking_next, taking_start}
 use Rattle.loading.specs.Taking.{Taking}
 use Rattle.loading.proofs.take_rows.Goals as goal
+use Rattle.loading.proofs.take_rows.Invariants.{left_in}
 use Rattle.loading.proofs.take_rows.Goals.{After-row_at-f}
-
--- the rows of a file from row i on
-abbrev leftIn : List ℕ → ℕ → ℕ → List FileRow
-leftIn file count i = rows_in (count - i) (drop (row_size * i) (drop head_size file))
 
 pub loop-i-init : goal.loop-i-init
 loop-i-init c =
     let a = c.args in
     let fs = rows_in a.count (drop head_size a.file.now) in
-    let all : fs ≡ leftIn a.file.now a.count 0 = rw sub-zero in (
+    let all : fs ≡ left_in a.file.now a.count 0 = rw sub-zero in (
       omega arith,
       subst (λ (left : List FileRow). Taking fs left (replicate jobs c.idle-row.result) true false 0) all
           (subst (λ (r : Row). Taking fs fs (replicate jobs r) true false 0) (sym c.idle-row.ensures) (taking_start fs (length-replicate jobs idle))),
@@ -36,9 +33,9 @@ loop-i-preserved c =
     let file = start.args.file.now in
     let count = start.args.count in
     let f = at.row_at-f.result in
-    let opens : leftIn file count l.i ≡ f ∷ leftIn file count (l.i + 1) =
+    let opens : left_in file count l.i ≡ f ∷ left_in file count (l.i + 1) =
     rows_left count l.i (drop head_size file) at.loop-i-test.true
-    ∙ ap (λ (g : FileRow). g ∷ leftIn file count (l.i + 1)) (sym at.row_at-f.ensures.is) in
+    ∙ ap (λ (g : FileRow). g ∷ left_in file count (l.i + 1)) (sym at.row_at-f.ensures.is) in
     let now = subst (λ (left : List FileRow). Taking (rows_in count (drop head_size file)) left l.rows l.fits l.stray l.passed.0) opens l.invariant.1 in
     (omega arith, taking_next f c.row_said-new.result now c.row_said-new.ensures c.earlier.ensures c.live.ensures)
 
@@ -49,7 +46,7 @@ returns c =
     let l = c.loop-i in
     let fs = rows_in a.count (drop head_size a.file.now) in
     let over : a.count - l.i ≡ 0 = omega arith in
-    let none : leftIn a.file.now a.count l.i ≡ [] =
+    let none : left_in a.file.now a.count l.i ≡ [] =
     ap (λ (n : ℕ). rows_in n (drop (row_size * l.i) (drop head_size a.file.now))) over in
     taking_end (rows_jobs a.count (drop head_size a.file.now))
     (subst (λ (left : List FileRow). Taking fs left l.rows l.fits l.stray l.passed.0) none l.invariant.1)
