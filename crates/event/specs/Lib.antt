@@ -1,8 +1,6 @@
--- What the contracts of this crate say, and the laws of true time, refusals and events.
-pub mod AnswerLaws
+-- What the contracts of this crate say, and the laws of events.
 pub mod Answers
 pub mod Clock
-pub mod ClockLaws
 pub mod EventLaws
 pub mod Events
 pub mod Limits
