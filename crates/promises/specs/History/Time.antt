@@ -2,7 +2,7 @@
 use Rattle.promises.specs.Prelude.{List, Table, [], accepted, ap, arith, cond, course, map, refl, run, sym, tick_of, time_at, ℕ, ◌∙◌, ◌∷◌, ◌≡◌}
 use Rattle.event.specs.declared.events.Event.{Event}
 use Rattle.event.specs.Clock.{Often, latest, shown, then}
-use Rattle.event.proofs.ClockLaws.{moved_on}
+use Rattle.event.specs.ClockLaws.{moved_on}
 use Rattle.promises.specs.History.Words.{heeded, heeded_by}
 use Rattle.promises.specs.History.Events.{next_either}
 
