@@ -1,5 +1,5 @@
 -- What a survey of a table says about a question.
-use Rattle.asking.specs.Prelude.{Bool, Bounds, Event, Known, List, Listed, Report, Row, Seen, Survey, Surveyed, Table, ◌∙◌, ◌≡◌, ap, bounds_of, in_way, job_of, late_in, outcome, refusal_cases, reported, row_in, seen_by, seen_in, sound, sound_by_lem, subst, survey_tells, true, waiting_by_lem, waiting_by, ℕ}
+use Rattle.asking.specs.Prelude.{Bool, Bounds, Event, Known, List, Listed, Report, Row, Seen, Survey, Surveyed, Table, ◌∙◌, ◌≡◌, ap, bounds_of, in_way, job_of, late_in, outcome, refusal_cases, reported, row_in, seen_by_lem, seen_in, sound, sound_by_lem, subst, survey_tells, true, waiting_by_lem, waiting_by, ℕ}
 
 -- what is found from what is seen holds for the table
 pub seen_tells :
@@ -7,7 +7,7 @@ pub seen_tells :
     outcome (refusal_cases v.seen e) (f v.seen) ≡ outcome (refusal_cases (seen_in t (job_of e)) e) (f (seen_in t (job_of e)))
 seen_tells t e v survey f =
     let sees : sound t ≡ true → v.seen ≡ seen_in t (job_of e) =
-    λ ok. (survey.known (sound_by_lem t ∙ ok)).sees ∙ seen_by t (job_of e) in
+    λ ok. (survey.known (sound_by_lem t ∙ ok)).sees ∙ seen_by_lem t (job_of e) in
     survey_tells t e v.seen _ _ (survey.told ∙ sound_by_lem t) sees (λ ok. ap f (sees ok))
 
 -- who was listed by the numbers of a table was listed by the table
@@ -27,7 +27,7 @@ pub report_is :
     (record { turn = v.seen.row.turn; token = v.seen.token; waiting = w; ahead = v.standing.ahead; in_way = n })
     (reported t (row_in t j))
 report_is t j v known w n waits blocks =
-    let same = known.sees ∙ seen_by t j in
+    let same = known.sees ∙ seen_by_lem t j in
     let waiting = waits ∙ ap (λ (s : Seen). waiting_by t.tokens v.standing s.row) same ∙ waiting_by_lem t.tokens t.rows v.standing (row_in t j) known.stands in
     let before = known.stands.before in
     let between = blocks ∙ ap (λ (s : Seen). in_way t.rows s.row.turn.0 s.row.declared) same in

@@ -1,0 +1,9 @@
+-- The values that were read, one for each width, are the fields in their order.
+use Rattle.service.specs.Prelude.{arith}
+use Rattle.service.specs.FieldsIn.{head_read}
+use Rattle.service.proofs.parts.head_in.Goals as goal
+
+pub returns : goal.returns
+returns c =
+    let read = c.read_all in
+    head_read c.args.bytes.now _ _ (omega arith) read.ensures
