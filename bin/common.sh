@@ -30,19 +30,19 @@ install_package() { # PACKAGE [OPTION..]
     }
 }
 
-# Sets 'kit', 'tools', its toolchain for this machine, 'loader', which runs its programs, and 'emulator', which is empty on
-# x86-64: programs are for that.
+# Sets 'kit', 'tools', its toolchain, 'loader', which runs the kit's programs, and 'emulator', which is empty on x86-64:
+# the kit and its programs are for that, and elsewhere run under an emulator of the machine's own.
 find_kit() {
     local rt
     need_rt
     rt=$(readlink -f "$(command -v rt)")
     kit=${RATTLE_HOME:-${rt%/bin/rt}}
-    tools=$kit/on/$(uname -m)/toolchain
+    tools=$kit/toolchain
     loader=$tools/lib/ld-linux-x86-64.so.2 emulator=''
     [[ -x $loader ]] || fail "the kit has no loader at $loader"
     [[ $(uname -m) != x86_64 ]] || return 0
-    emulator=$tools/bin/qemu-x86_64
-    [[ -x $emulator ]] || fail "the kit has no emulator at $emulator"
+    emulator=$(command -v qemu-x86_64-static || command -v qemu-x86_64) ||
+        fail "there is no emulator for x86-64 (Debian: apt-get install qemu-user-static)"
 }
 
 # The independent model, as target/model/release/model.
@@ -65,7 +65,8 @@ copy_files() { # FOLDER
 }
 
 # Waits until nobody else does this in this tree, and keeps others waiting until 'unlock', or until this script and all that
-# it started have ended. The file does not stand in target/, which rt ci removes. One that was removed meanwhile is nobody's.
+# it started have ended. The file does not stand in target/, which may be removed at any time. One that was removed meanwhile
+# is nobody's.
 lock() { # build|gate
     local file=$root/.lock-$1
     while :; do

@@ -35,7 +35,7 @@
 //! its name being the number of the case. `explain`, `stats`, `at` and `wave` print what
 //! docs/DESK.md says, `at` of the last record. The mask has a 1 at the place of each job,
 //! 0 to 63, that a record names; the dump shows the jobs of its mask. `desk` may stand
-//! before these words, as the program of this name is called. `read-wave` prints the values
+//! before these words, as .ci/compare-desk calls it. `read-wave` prints the values
 //! of any dump at the end of each time. The sizes are the bytes of a case and the records
 //! of a block. Wrong arguments, and input or output that fails, exit with 2.
 

@@ -3,7 +3,7 @@
 use crate::demand3;
 use crate::document::{Block, Table};
 use crate::judge::{kit_libraries, origin};
-use crate::output::PARTS;
+use crate::output::{KEPT, PARTS};
 use crate::sheet::{Sheet, MISSING};
 use crate::tree::{Crate, STATEMENT};
 
@@ -13,6 +13,9 @@ impl Sheet<'_> {
         let same = self.output.facts.get("sources").is_some_and(|then| self.tree.facts.get("sources") == Some(then));
         self.paragraph(match (self.is_proved("promises"), same) {
             (false, _) => "NOT PROVED: the output does not say that the crate promises is proved. The theorem is:",
+            (true, true) if self.is_kept("promises") => {
+                "Proved by an earlier run of the same files on this machine, with the crate promises. The theorem is:"
+            }
             (true, true) => "Proved in this run, with the crate promises. The theorem is:",
             (true, false) => "The output says that the crate promises is proved; that it is of the text below is not shown. The theorem is:",
         });
@@ -31,46 +34,48 @@ impl Sheet<'_> {
     }
 
     pub fn crates(&mut self) {
-        self.head("The crates, and what they cost");
+        self.head("The crates, and how large they are");
         self.paragraph(
             "Lines are those that are neither empty nor comment: code in src, definitions and laws with \
-             their proofs in specs, proofs of functions in proofs. Seconds are those of the crate's check.",
+             their proofs in specs, proofs of functions in proofs. Of a crate that is kept, an earlier run on this \
+             machine proved the same files, and its functions and axioms stand in the output of that run.",
         );
-        let counts = [">functions", ">src", ">specs", ">proofs", ">axioms", ">edits refused", ">seconds"];
-        let mut table = Table::new(&[&["crate", "result"], &counts[..], &["kit libraries"]].concat());
-        let mut sums = [0; 5];
+        let counts = [">functions", ">src", ">specs", ">proofs", ">axioms", ">edits refused"];
+        let mut table = Table::new(&[&["crate", "result"], &counts[..], &["kit libraries beside std"]].concat());
+        let mut sums = [0; 4];
         for item in &self.tree.crates {
             let numbers = self.numbers_of(item);
             sums.iter_mut().zip(numbers).for_each(|(sum, number)| *sum += number);
-            let [functions, src, specs, proofs, seconds] = numbers.map(|number| number.to_string());
+            let [functions, src, specs, proofs] = numbers.map(|number| number.to_string());
+            let functions = if self.is_kept(&item.name) { "-".to_string() } else { functions };
             let result = self.output.checks.get(&item.name).map_or(MISSING, |check| &check.result);
             let (axioms, edits) = (self.axioms_of(&item.name), self.edits_of(&item.name));
             let kit = Vec::from_iter(kit_libraries(self.tree, &item.name)).join(" ");
             let kit = if kit.is_empty() { "none" } else { &kit };
-            table.row([&item.name, result, &functions, &src, &specs, &proofs, &axioms, &edits, &seconds, kit]);
+            table.row([&item.name, result, &functions, &src, &specs, &proofs, &axioms, &edits, kit]);
         }
-        let [functions, src, specs, proofs, seconds] = sums.map(|sum| sum.to_string());
+        let [functions, src, specs, proofs] = sums.map(|sum| sum.to_string());
         let edits = format!("{} of {}", self.refused(""), self.tree.edits.len());
-        table.row(["all", "", &functions, &src, &specs, &proofs, "", &edits, &seconds, ""]);
+        table.row(["all", "", &functions, &src, &specs, &proofs, "", &edits, ""]);
         self.blocks.push(Block::Table(table));
     }
 
-    /// Functions, lines and seconds.
-    fn numbers_of(&self, item: &Crate) -> [usize; 5] {
-        let check = self.output.checks.get(&item.name);
-        let (functions, seconds) = check.map_or((0, 0), |check| (check.proved.len(), check.seconds));
+    /// Functions and lines.
+    fn numbers_of(&self, item: &Crate) -> [usize; 4] {
+        let functions = self.output.checks.get(&item.name).map_or(0, |check| check.proved.len());
         let [src, specs, proofs] = item.lines;
-        [functions, src, specs, proofs, seconds]
+        [functions, src, specs, proofs]
     }
 
     /// A library's check names no axioms of the kit's libraries below it: the programs above it do.
     fn axioms_of(&self, name: &str) -> String {
-        let Some(check) = self.output.checks.get(name).filter(|check| check.result == "proved") else {
+        let Some(check) = self.check_of(name) else {
             return "-".to_string();
         };
         match (check.axioms.is_empty(), check.axiom_count) {
             (false, 0) => "NOT COUNTED".to_string(),
             (false, counted) => counted.to_string(),
+            // An archive's check names those that it reaches, as a program's does.
             _ if kit_libraries(self.tree, name).is_empty() || self.programs().any(|program| program == name) => {
                 "0".to_string()
             }
@@ -122,7 +127,14 @@ impl Sheet<'_> {
         for item in &self.tree.crates {
             let check = self.output.checks.get(&item.name);
             let rests = check.map_or("", |check| &check.rests);
-            share(if rests.is_empty() { "NOT SAID" } else { rests }, &item.name);
+            share(
+                match rests {
+                    "" if self.is_kept(&item.name) => KEPT,
+                    "" => "NOT SAID",
+                    said => said,
+                },
+                &item.name,
+            );
             if let Some(check) = check.filter(|check| !check.linked.is_empty()) {
                 share(&check.linked, &item.name);
             }
@@ -136,19 +148,18 @@ impl Sheet<'_> {
 
     pub fn edits(&mut self) {
         self.head("Wrong versions that must be refused");
-        let seconds: usize = self.output.trials.values().map(|trial| trial.seconds).sum();
         let all = self.tree.edits.len();
-        self.paragraph(&format!("{} of {all} were refused, in {seconds} seconds of checks.", self.refused("")));
-        let mut table = Table::new(&["edit", "result", ">seconds", "what it tried"]);
+        self.paragraph(&format!("{} of {all} were refused.", self.refused("")));
+        let mut table = Table::new(&["edit", "result", "what it tried"]);
         for edit in &self.tree.edits {
             match self.output.trials.get(&edit.name) {
-                Some(trial) => table.row([&edit.name, trial.result, &trial.seconds.to_string(), &edit.tries]),
-                None => table.row([&edit.name, MISSING, "-", &edit.tries]),
+                Some(trial) => table.row([&edit.name, trial.result, &edit.tries]),
+                None => table.row([&edit.name, MISSING, &edit.tries]),
             }
         }
         for (name, trial) in &self.output.trials {
             if !self.tree.edits.iter().any(|edit| edit.name == *name) {
-                table.row([name, trial.result, &trial.seconds.to_string(), "NOT IN THE TREE"]);
+                table.row([name, trial.result, "NOT IN THE TREE"]);
             }
         }
         self.blocks.push(Block::Table(table));
@@ -202,7 +213,8 @@ impl Sheet<'_> {
         for item in &self.tree.crates {
             let names = self.output.checks.get(&item.name).map(|check| check.proved.join(", "));
             let names = names.unwrap_or(MISSING.to_string());
-            table.row([&item.name, if names.is_empty() { "none" } else { &names }]);
+            let none = if self.is_kept(&item.name) { "kept: named in the output of the earlier run" } else { "none" };
+            table.row([&item.name, if names.is_empty() { none } else { &names }]);
         }
         self.blocks.push(Block::Table(table));
     }

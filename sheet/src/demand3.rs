@@ -5,87 +5,87 @@
 /// and p the number of other requests that are live when it is opened.
 pub const SENTENCES: [(&str, &str); 19] = [
     (
-        "opening-says",
+        "opening_says",
         "The opening is answered with the token if at most T-1 others are live at that \
          moment, and with `wait` otherwise.",
     ),
     (
-        "token-comes",
+        "token_comes",
         "The request has its token exactly from the moment on when as many requests have \
          completed since its opening as p exceeds T-1; at once if p does not exceed it.",
     ),
     (
-        "token-reported",
+        "token_reported",
         "Whenever a report of the job is answered, it says that the token is there exactly if \
          it has come by that count.",
     ),
     (
-        "token-listed",
+        "token_listed",
         "While the request has no token, the event that brings it lists the job as woken, \
          once, and no other event lists the job.",
     ),
-    ("ask-has-token", "An ask of this request is accepted only if it has its token."),
+    ("ask_has_token", "An ask of this request is accepted only if it has its token."),
     (
-        "ask-says",
+        "ask_says_lem",
         "An accepted ask is answered with `wait` exactly if some earlier-opened live request \
          still declares a member of the set, and with `granted` otherwise.",
     ),
     (
-        "ask-granted",
+        "ask_granted",
         "If no earlier one declares a member, the whole set is held at once. While one does, nothing of the \
          set is held; with the event after which none does, the whole set is held. That event lists the job \
          as woken, once, and none before it does.",
     ),
     (
-        "still-declares",
+        "still_declares",
         "What the request declares now is what it was opened with, less what its own accepted \
          give ups took out.",
     ),
     (
-        "way-bounded",
+        "way_bounded",
         "Once the request has its token, at most T-1 are in its way: earlier-opened live \
          requests that declare something that it declares.",
     ),
     (
-        "way-reported",
+        "way_reported",
         "The number that a later report gives is the number in the way now, less those who have parted from \
          the request in between: by completing, or by a give up of either after which the two share nothing.",
     ),
     (
-        "parted-then",
+        "parted_then",
         "Whoever parts from the request by an accepted event is out of its way with that very \
          event.",
     ),
     (
-        "parted-once",
+        "parted_once",
         "An earlier-opened request that is not in its way never comes into it, so nobody is \
          counted as parting twice.",
     ),
     (
-        "given-up-for-good",
+        "given_up_for_good",
         "What the request has given up it neither declares nor holds for as long as it lives, \
          and every ask for some of it is refused.",
     ),
     (
-        "token-by-earlier",
+        "token_by_earlier",
         "Counting only the completions of earlier-opened requests gives the same: no later \
          request brings the token sooner or later.",
     ),
     (
-        "later-unseen",
+        "later_unseen",
         "An event that names none of the requests up to this one (a beat, or an event of a \
          job whose request was opened later, or that has none) changes nothing for them: not \
          their rows, not who stands before them, not what is in their way; and it wakes none \
          of them.",
     ),
-    ("refused-before", "Without the refused events before the opening, the table at the opening is the same."),
-    ("refused-since", "Without the refused events since the opening, the table now is the same."),
+    ("refused_before", "Without the refused events before the opening, the table at the opening is the same."),
+    ("refused_since", "Without the refused events since the opening, the table now is the same."),
     (
-        "refused-uncounted",
+        "refused_uncounted",
         "A refused event counts as no completion: without the refused events the count is the \
          same.",
     ),
-    ("refused-unparted", "A refused event parts nobody: without the refused events as many have parted."),
+    ("refused_unparted", "A refused event parts nobody: without the refused events as many have parted."),
 ];
 
 /// A part of the statement's lines: a clause with the comment before it, or, without a name,

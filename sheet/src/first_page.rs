@@ -70,7 +70,11 @@ impl Sheet<'_> {
 
     fn axioms_of_the_archive(&self) -> String {
         let libraries = Vec::from_iter(kit_libraries(self.tree, "norakkeun"));
-        if libraries.is_empty() {
+        if libraries.is_empty() && self.is_kept("norakkeun") {
+            "It names no library of the toolchain; of which C functions its proofs assume something, the output of the \
+             earlier run that proved it tells"
+                .to_string()
+        } else if libraries.is_empty() {
             "Its proofs assume nothing of any C function".to_string()
         } else {
             format!("It uses the toolchain's libraries {}, which assume C functions", libraries.join(", "))
@@ -86,11 +90,17 @@ impl Sheet<'_> {
             checks().flat_map(|check| &check.axioms).flat_map(|line| c_functions(line)).collect();
         let others = if functions.remove("...") { ", and some that the checks count and do not name" } else { "" };
         let functions: Vec<String> = functions.iter().map(|name| format!("`{name}`")).collect();
-        let linked = checks().flat_map(|check| check.linked.split(", "));
+        let linked = checks().flat_map(|check| check.linked.split(", ")).filter(|file| !file.is_empty());
         let linked: BTreeSet<&str> = linked.filter_map(|file| file.rsplit('/').next()).collect();
+        let kept: Vec<&str> = names.iter().copied().filter(|name| self.is_kept(name)).collect();
+        let earlier = if kept.is_empty() {
+            String::new()
+        } else {
+            format!(" (what {} call and link, the output of the earlier run that proved them tells)", kept.join(", "))
+        };
         format!(
             "also the linker and the operating system; the C functions that {} call: {}{others}; the C code \
-             that the toolchain links into them: {}. That a program hands its bytes to the proved \
+             that the toolchain links into them: {}{earlier}. That a program hands its bytes to the proved \
              functions and prints what they answer is compared, not proved",
             names.join(", "),
             functions.join(", "),
@@ -106,17 +116,27 @@ impl Sheet<'_> {
     pub fn ran(&mut self) {
         let mut table = Table::new(&["What", "By", "How much, as the output says"]);
         let all = self.tree.crates.len();
-        let proved = self.tree.crates.iter().filter(|item| self.is_proved(&item.name)).count();
+        let now = self.tree.crates.iter().filter(|item| self.check_of(&item.name).is_some()).count();
+        let kept = self.tree.crates.iter().filter(|item| self.is_kept(&item.name)).count();
         let functions: usize = self.output.checks.values().map(|check| check.proved.len()).sum();
+        let earlier = match kept {
+            0 => String::new(),
+            _ => format!("; {kept} by an earlier run of the same files on this machine"),
+        };
         table.row([
             "proofs",
             "rt ci",
-            &format!("{proved} of {all} crates, with {functions} functions, proved from nothing"),
+            &format!("{now} of {all} crates, with {functions} functions, proved from nothing in this run{earlier}"),
         ]);
         let refused = format!("{} of {} refused, as they must be", self.refused(""), self.tree.edits.len());
         table.row(["wrong versions", "rt ci", &refused]);
-        let wrote: Vec<&str> = self.programs().filter(|name| self.output.programs.contains_key(*name)).collect();
-        let programs = format!("{} ran and wrote what is stored: {}", wrote.len(), wrote.join(", "));
+        let wrote: Vec<&str> = self.programs().filter(|name| self.output.programs.contains(*name)).collect();
+        let both = wrote.iter().filter(|name| self.output.programs_of_rattle.contains(**name)).count();
+        let programs = format!(
+            "{} ran and wrote what is stored: {}; {both} of them also as Rattle's own compiler builds them",
+            wrote.len(),
+            wrote.join(", ")
+        );
         table.row(["programs", "rt ci", &programs]);
         let tests = self.output.model_tests.join(" | ");
         table.row(["tests of the model", "cargo test", if tests.is_empty() { MISSING } else { &tests }]);

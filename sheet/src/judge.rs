@@ -2,7 +2,7 @@
 //! against it as a failed one does.
 
 use crate::demand3;
-use crate::output::{is_verdict, Check, Output, Part, PARTS};
+use crate::output::{is_verdict, Check, Output, Part, KEPT, PARTS};
 use crate::tree::{Crate, Tree};
 use crate::words::TRUSTED;
 use std::collections::BTreeSet;
@@ -54,15 +54,26 @@ impl Judgement {
                 self.against(format!("crate {name}: the output says nothing of it"));
                 continue;
             };
-            if check.result == "proved" {
-                self.good += 1;
-                self.check(name, check);
-            } else {
-                self.against(format!("crate {name}: {}", check.result));
+            match check.result.as_str() {
+                "proved" => {
+                    self.good += 1;
+                    self.check(name, check);
+                }
+                KEPT => self.good += 1,
+                other => self.against(format!("crate {name}: {other}")),
             }
-            if *is_program && !output.programs.contains_key(name) {
+            if *is_program && !output.programs.contains(name) {
                 self.against(format!("program {name}: the output does not say that it ran and wrote what it must"));
+            } else if *is_program && !output.programs_of_rattle.contains(name) {
+                self.notes.push(format!("The program {name} ran as LLVM builds it alone."));
             }
+        }
+        let kept = output.checks.values().filter(|check| check.result == KEPT).count();
+        if kept > 0 {
+            let all = tree.crates.len();
+            self.notes.push(format!(
+                "Of {all} crates {kept} were not proved in this run: an earlier run on this machine proved the same files."
+            ));
         }
         for name in output.checks.keys() {
             if !tree.crates.iter().any(|item| item.name == *name) {
@@ -108,6 +119,21 @@ impl Judgement {
             if !tree.edits.iter().any(|edit| edit.name == *name) {
                 self.against(format!("must-fail edit {name}: in the output, and not in the tree ({})", trial.said));
             }
+        }
+        self.well(output);
+    }
+
+    /// The line `ok; ..; must-fail edits: N refused, M bad; ..` counts as this sheet does, and none is bad.
+    fn well(&mut self, output: &Output) {
+        let Some(well) = &output.well else {
+            self.against("rt ci: the output does not say that all is well".to_string());
+            return;
+        };
+        let told = well.split("; ").find_map(|part| part.strip_prefix("must-fail edits: ")).unwrap_or("0 refused");
+        let refused = output.trials.values().filter(|trial| trial.result == "refused").count();
+        let words: Vec<&str> = told.split(' ').collect();
+        if words.first() != Some(&refused.to_string().as_str()) || words.last() == Some(&"bad") {
+            self.against(format!("rt ci says of the must-fail edits: {told}, and this sheet counts {refused} refused"));
         }
     }
 
@@ -244,7 +270,10 @@ impl Judgement {
     }
 }
 
-/// The toolchain's libraries that a crate reaches: what crates.txt names and does not list.
+/// The library that each crate may use without naming it, and those whose C functions it calls.
+const ALWAYS_THERE: [&str; 3] = ["std", "libc", "os"];
+
+/// The toolchain's libraries that a crate reaches beside std: what crates.txt names and does not list.
 pub fn kit_libraries(tree: &Tree, name: &str) -> BTreeSet<String> {
     let mut libraries = BTreeSet::new();
     let mut reached = BTreeSet::from([name]);
@@ -264,7 +293,7 @@ pub fn origin(tree: &Tree, name: &str, axioms: &str) -> String {
     let from = axioms.split(':').next().unwrap_or("");
     if from == "its own" || tree.crates.iter().any(|item| item.name == from) {
         "NOT OF THE KIT: declared in this repository".to_string()
-    } else if kit_libraries(tree, name).contains(from) {
+    } else if ALWAYS_THERE.contains(&from) || kit_libraries(tree, name).contains(from) {
         format!("kit library {from}")
     } else {
         format!("NOT KNOWN: crates.txt names no library {from} for it")

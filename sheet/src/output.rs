@@ -1,9 +1,9 @@
 //! What an output of the gate says.
 //!
-//! What a crate's check prints stands before the line of rt that ends it, so it is
-//! gathered in `current` until that line comes.
+//! What a crate's check prints stands between a line `== NAME` and the line of rt that ends
+//! it, so it is gathered in `current` until that line comes.
 
-use std::collections::BTreeMap;
+use std::collections::{BTreeMap, BTreeSet};
 
 /// What the tree, or an output, says of itself: toolchain, commit, state, sources and more.
 pub type Facts = BTreeMap<String, String>;
@@ -26,16 +26,15 @@ const fn part(what: &'static str, by: &'static str, begins: &'static str) -> Par
     Part { what, by, begins }
 }
 
-pub const PARTS: [Part; 12] = [
+pub const PARTS: [Part; 11] = [
     part("programs and model", ".ci/compare", "compare: alike: "),
     part("program table and model", ".ci/compare-table", "compare-table: alike: "),
-    part("program desk and model", ".ci/compare-desk", "compare-desk: alike: "),
+    part("program desktool and model", ".ci/compare-desk", "compare-desk: alike: "),
     part("broken rules of model", ".ci/compare-breaks", "compare-breaks: "),
     part("test of this sheet", "tests/sheet", "sheet test: ok: "),
     part("test of the commands", "tests/commands", "commands test: ok: "),
     part("test of the cost", "tests/cost", "cost test: "),
     part("names of wrong versions", "tests/edits", "edits test: "),
-    part("table of refusals", "tests/refusals", "refusals test: "),
     part("page of the rules", "tests/rules", "rules test: ok: "),
     part("page for firmware", "tests/page", "page test: "),
     part("bundle for firmware", "tests/bundle", "bundle test: "),
@@ -48,7 +47,12 @@ pub struct Output {
     pub trials: BTreeMap<String, Trial>,
     /// The broken rules of the model that were found, and where.
     pub found: BTreeMap<String, String>,
-    pub programs: BTreeMap<String, String>,
+    /// Those that ran and wrote what they must, as LLVM builds them.
+    pub programs: BTreeSet<String>,
+    /// Likewise, as Rattle's own compiler builds them.
+    pub programs_of_rattle: BTreeSet<String>,
+    /// The line with which rt ci says that all is well.
+    pub well: Option<String>,
     /// By how its line begins, what a part of the gate said at its end.
     pub parts: BTreeMap<String, String>,
     pub model_tests: Vec<String>,
@@ -64,14 +68,18 @@ pub struct Output {
     verdicts: BTreeMap<String, ()>,
 }
 
+/// What a crate's check comes to where an earlier run on this machine proved the same files:
+/// rt ci takes that, and says nothing else of it.
+pub const KEPT: &str = "kept";
+
 /// A crate's check.
 #[derive(Default)]
 pub struct Check {
+    /// `proved`, `KEPT`, or what speaks against a pass.
     pub result: String,
     /// As the verdict counts them, if there is one.
     pub functions: Option<usize>,
     pub proved: Vec<String>,
-    pub seconds: usize,
     /// The words of the verdict that tell what it took on trust.
     pub rests: String,
     pub axiom_count: usize,
@@ -84,7 +92,6 @@ pub struct Check {
 pub struct Trial {
     pub said: String,
     pub result: &'static str,
-    pub seconds: usize,
 }
 
 /// A kind of input that was compared, with the counts of `compare: KIND: alike (..)`.
@@ -122,13 +129,20 @@ fn fact(line: &str) -> Option<(String, String)> {
 
 impl Check {
     fn gather(&mut self, line: &str) {
-        if let Some(name) = between(line, "fn ", ": proved") {
-            self.proved.push(name.to_string());
+        if line.starts_with("== ") {
+            *self = Check::default();
+        } else if let Some(name) = between(line, "fn ", ": proved") {
+            // What rattle itself writes round `main` is no function of the sources, and it counts none.
+            if !name.ends_with("+run") {
+                self.proved.push(name.to_string());
+            }
         } else if let Some(axioms) = line.strip_prefix("axioms ").filter(|a| a.contains(": ")) {
-            self.axioms.push(axioms.to_string());
+            if !axioms.contains(": none reached of ") {
+                self.axioms.push(axioms.to_string());
+            }
         } else if line.starts_with("linked ") {
             let files = word(line, "files").split(',');
-            let others: Vec<&str> = files.filter(|file| !file.contains("/target/obj/")).collect();
+            let others: Vec<&str> = files.filter(|file| !file.starts_with("out/")).collect();
             self.linked = others.join(", ");
         } else if line.starts_with("logic=proved ") {
             self.functions = Some(number(word(line, "functions")));
@@ -143,7 +157,7 @@ impl Check {
 
 impl Output {
     fn take_proofs(&mut self, line: &str, current: &mut Check) {
-        if line.starts_with("fn ") && !line.ends_with(": proved") {
+        if line.starts_with("fn ") && !line.ends_with(": proved") && !line.contains(": proved, may ") {
             self.failures.push(line.to_string());
         }
         let Some(said) = line.strip_prefix("rt: ") else {
@@ -151,7 +165,9 @@ impl Output {
         };
         if let Some(trial) = said.strip_prefix("must-fail ") {
             self.take_trial(trial);
-        } else if said.starts_with("FAILED") || said.starts_with("in no crate") {
+        } else if said.starts_with("ok; ") {
+            self.well = Some(said.to_string());
+        } else if said.starts_with("FAILED: ") {
             self.failures.push(line.to_string());
         } else if let Some((name, said)) = said.split_once(' ') {
             self.take_crate(name, said, line, current);
@@ -160,26 +176,24 @@ impl Output {
 
     fn take_crate(&mut self, name: &str, said: &str, line: &str, current: &mut Check) {
         let result = match said {
-            _ if between(said, "proved (", " s)").is_some_and(is_number) => "proved",
-            _ if said.starts_with("proved (unchanged") => "NOT PROVED ANEW",
+            "proved" => "proved",
+            _ if said.starts_with("is kept: ") => KEPT,
             _ if said.starts_with("NOT PROVED") => "NOT PROVED",
-            _ if said.starts_with("ran, and wrote what") || said.starts_with("ran as nobody, and wrote what") => {
-                self.programs.insert(name.to_string(), said.to_string());
+            _ if said.starts_with("ran, and wrote what") => {
+                self.programs.insert(name.to_string());
                 return;
             }
-            _ => {
-                if said.starts_with("proved, and its run FAILED") {
-                    self.failures.push(line.to_string());
-                }
+            _ if said.starts_with("ran (built by Rattle's own compiler), and wrote what") => {
+                self.programs_of_rattle.insert(name.to_string());
                 return;
             }
+            _ => return,
         };
         if result == "NOT PROVED" {
             self.failures.push(line.to_string());
         }
-        let mut check = std::mem::take(current);
+        let mut check = if result == KEPT { Check::default() } else { std::mem::take(current) };
         check.result = result.to_string();
-        check.seconds = seconds(said);
         once(&mut self.checks, &mut self.said_twice, name, check, format!("crate {name}"));
     }
 
@@ -187,12 +201,14 @@ impl Output {
         let Some((name, said)) = line.split_once(": ") else {
             return;
         };
+        let name = name.trim_end_matches(".edit");
         let result = match said {
             _ if said.starts_with("refused, as it must be") => "refused",
             _ if said.starts_with("BAD EDIT") => "BAD EDIT",
+            _ if said.starts_with("NOT TRIED") => "NOT TRIED",
             _ => "NOT REFUSED",
         };
-        let trial = Trial { said: said.to_string(), result, seconds: seconds(said) };
+        let trial = Trial { said: said.to_string(), result };
         once(&mut self.trials, &mut self.said_twice, name, trial, format!("must-fail edit {name}"));
     }
 
@@ -222,7 +238,8 @@ impl Output {
     }
 
     fn take_model(&mut self, line: &str) {
-        if let Some(said) = line.strip_prefix("test result: ") {
+        // Tests of crates have such a line too, which counts no measured ones.
+        if let Some(said) = line.strip_prefix("test result: ").filter(|said| said.contains("; 0 measured")) {
             self.model_tests.push(said.split("; 0 measured").next().unwrap_or(said).to_string());
             if !said.starts_with("ok.") {
                 self.failures.push(format!("the model's own tests: {line}"));
@@ -300,12 +317,6 @@ fn word<'a>(line: &'a str, name: &str) -> &'a str {
 
 fn between<'a>(line: &'a str, before: &str, after: &str) -> Option<&'a str> {
     line.strip_prefix(before)?.strip_suffix(after)
-}
-
-/// The number before ` s)`, which ends a line of rt that tells a time.
-fn seconds(said: &str) -> usize {
-    let before = said.strip_suffix(" s)").unwrap_or("");
-    number(before.rsplit(|c: char| !c.is_ascii_digit()).next().unwrap_or(""))
 }
 
 fn number(text: &str) -> usize {

@@ -2,7 +2,7 @@
 
 use crate::document::{Block, Document};
 use crate::judge::{judge, Judgement};
-use crate::output::{Output, Part};
+use crate::output::{Check, Output, Part, KEPT};
 use crate::tree::Tree;
 
 pub const MISSING: &str = "MISSING";
@@ -61,7 +61,16 @@ impl Sheet<'_> {
     }
 
     pub fn is_proved(&self, name: &str) -> bool {
-        self.output.checks.get(name).is_some_and(|check| check.result == "proved")
+        self.output.checks.get(name).is_some_and(|check| check.result == "proved" || check.result == KEPT)
+    }
+
+    /// What this very run says of the crate's check.
+    pub fn check_of(&self, name: &str) -> Option<&Check> {
+        self.output.checks.get(name).filter(|check| check.result == "proved")
+    }
+
+    pub fn is_kept(&self, name: &str) -> bool {
+        self.output.checks.get(name).is_some_and(|check| check.result == KEPT)
     }
 
     pub fn programs(&self) -> impl Iterator<Item = &str> {

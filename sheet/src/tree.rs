@@ -65,12 +65,12 @@ pub fn read(root: &Path, facts: Facts) -> Result<Tree, String> {
     Ok(tree)
 }
 
-/// Each line of crates.txt is `NAME: the crates it knows`.
+/// Each line of crates.txt is `NAME: the crates it knows`, or `NAME staticlib: ..`.
 fn crates(root: &Path) -> Result<Vec<Crate>, String> {
     let text = text_of(&root.join("crates.txt"))?;
     let lines = text.lines().filter_map(|line| line.split('#').next()?.split_once(':'));
     let listed = |(name, knows): (&str, &str)| Crate {
-        name: name.trim().to_string(),
+        name: name.split_whitespace().next().unwrap_or("").to_string(),
         knows: knows.split_whitespace().map(str::to_string).collect(),
         ..Crate::default()
     };

@@ -30,8 +30,8 @@ pub const DEMANDS: [Demand; 3] = [
                  gives the event back.",
         carried_by: &[
             (&["accepted", "said", "wakes"], "crates/arbiter/specs/Meaning.antt"),
-            (&["one-record"], "crates/record/specs/RoundTrip.antt"),
-            (&["wrote-reads"], "crates/writing/specs/ReadBack.antt"),
+            (&["one_record"], "crates/record/specs/RoundTrip.antt"),
+            (&["wrote_reads"], "crates/writing/specs/ReadBack.antt"),
         ],
     },
     Demand {
@@ -59,12 +59,12 @@ pub fn carriers() -> impl Iterator<Item = (&'static str, &'static str)> {
 
 pub const HOW_TO_MAKE_AGAIN: &str =
     "The archive is `libnorakkeun.a`, for x86-64. To make it again, check out the commit and run \
-     `rt staticlib norakkeun` (or `bin/bundle`), then `sha256sum target/staticlib/libnorakkeun.a`: the same \
+     `bin/build-program --archive norakkeun` (or `bin/bundle`), then `sha256sum target/built/libnorakkeun.a`: the same \
      sources and toolchain give the same bytes. `bin/evidence --identity` prints the sum of the sources.";
 
 /// The words of a verdict that say what is trusted with the prover, as a check prints them
 /// after `sum=`. The toolchain calls a result with others a working result, and no verdict.
-pub const TRUSTED: [&str; 3] = ["native=", "logic-built=trusted", "libraries-built=trusted"];
+pub const TRUSTED: [&str; 4] = ["native=", "logic-built=trusted", "libraries-built=trusted", "statements=trusted"];
 
 /// What is trusted whatever is run; the rest is told by the output.
 pub const PROVER: &str =

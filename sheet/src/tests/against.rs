@@ -6,14 +6,11 @@ use crate::output::PARTS;
 use crate::text::text;
 use crate::tree::{axioms_in, declares, theorem_in};
 
-const NOT_REFUSED: &str = "NOT REFUSED: the crate is still proved with this edit (7 s)";
+const NOT_REFUSED: &str =
+    "NOT REFUSED: the crate is still proved with this edit (one that means the same as before ..)";
 
 fn with_edit_not_refused() -> String {
-    replaced(
-        &output(),
-        "laws/set_swapped: refused, as it must be (first at specs/X.antt:1:2; 5 s)",
-        &format!("laws/set_swapped: {NOT_REFUSED}"),
-    )
+    replaced(&output(), &format!("laws/set_swapped.edit: {REFUSED}"), &format!("laws/set_swapped.edit: {NOT_REFUSED}"))
 }
 
 fn with_line_after(output: &str, line: &str, added: &str) -> String {
@@ -32,8 +29,14 @@ fn an_edit_that_was_not_refused() {
 
 #[test]
 fn an_edit_that_is_bad() {
-    let bad = replaced(&output(), "laws/set_always: refused, as it must be", "laws/set_always: BAD EDIT: no such line");
+    let bad = replaced(
+        &output(),
+        &format!("laws/set_always.edit: {REFUSED}"),
+        "laws/set_always.edit: BAD EDIT: no such line",
+    );
     against(&bad, &["must-fail edit laws/set_always: BAD EDIT: no such line"]);
+    let told = replaced(&bad, "edits: 2 refused", "edits: 1 refused, 1 bad");
+    against(&told, &["rt ci says of the must-fail edits: 1 refused, 1 bad, and this sheet counts 1 refused"]);
     let is_row = |line: &str| line.starts_with("  laws/set_always ") && line.contains(" BAD EDIT ");
     assert!(text(&sheet_of(&bad)).lines().any(is_row));
 }
@@ -81,23 +84,31 @@ fn axioms_that_are_counted_and_not_named() {
 
 #[test]
 fn a_crate_that_is_not_proved() {
-    let planted = replaced(&output(), "rt: record proved (3 s)", "rt: record NOT PROVED (exit 1, 3 s)");
-    let planted = replaced(&planted, "fn record::made_up: proved", "fn record::made_up: not proved");
-    let says = [
-        "THE GATE FAILED",
-        "rt: record NOT PROVED (exit 1, 3 s)",
-        "fn record::made_up: not proved",
-        "crate record: NOT PROVED",
-    ];
+    let planted = replaced(&output(), "rt: record proved", "rt: record NOT PROVED");
+    let says = ["THE GATE FAILED", "rt: record NOT PROVED", "crate record: NOT PROVED"];
     against(&planted, &says);
+    for not in ["not proved", "no proof: expected answers in ./proofs/made_up/Answers.antt"] {
+        let planted = replaced(&planted, "fn record::made_up: proved", &format!("fn record::made_up: {not}"));
+        against(&planted, &[&says[..], &[&format!("fn record::made_up: {not}")]].concat());
+    }
+}
+
+/// Only rt ci's own words for what it keeps count, and a crate is not both.
+#[test]
+fn a_crate_that_was_proved_earlier() {
+    for earlier in ["proved (unchanged since it was last proved)", "proved (unchanged, 0 s)", "was proved"] {
+        let planted = replaced(&output(), "rt: record proved", &format!("rt: record {earlier}"));
+        against(&planted, &["crate record: the output says nothing of it", "and this sheet counts 10"]);
+    }
+    let both = with_line_after(&output(), "rt: record proved", "rt: record is kept: an earlier run ..");
+    against(&both, &["the output speaks twice of crate record"]);
 }
 
 #[test]
-fn a_crate_that_was_proved_earlier() {
-    for earlier in ["unchanged since it was last proved)", "unchanged, 0 s)"] {
-        let planted = replaced(&output(), "rt: record proved (3 s)", &format!("rt: record proved ({earlier}"));
-        against(&planted, &["crate record: NOT PROVED ANEW"]);
-    }
+fn an_output_in_which_rt_ci_does_not_say_that_all_is_well() {
+    against(&without(&output(), "rt: ok; "), &["rt ci: the output does not say that all is well"]);
+    let other = replaced(&output(), "edits: 2 refused", "edits: 3 refused");
+    against(&other, &["rt ci says of the must-fail edits: 3 refused, and this sheet counts 2 refused"]);
 }
 
 #[test]
@@ -108,13 +119,13 @@ fn a_crate_that_the_output_leaves_out() {
 
 #[test]
 fn a_crate_that_crates_txt_does_not_list() {
-    let planted = replaced(&output(), "rt: laws proved (3 s)", "rt: lows proved (3 s)");
+    let planted = replaced(&output(), "rt: laws proved", "rt: lows proved");
     against(&planted, &["crate lows: in the output, and not in crates.txt"]);
 }
 
 #[test]
 fn a_function_that_is_counted_and_not_named() {
-    let planted = without(&output(), "fn record::made_up");
+    let planted = without(&output(), "fn record::made_up: ");
     against(&planted, &["crate record: 1 functions counted, 0 named as proved"]);
 }
 
@@ -140,23 +151,23 @@ fn an_edit_that_the_output_leaves_out() {
 #[test]
 fn an_edit_that_is_not_in_the_tree() {
     let planted =
-        with_line_after(&output(), "rt: laws proved (3 s)", "rt: must-fail laws/other: refused, as it must be (1 s)");
+        with_line_after(&output(), "rt: laws proved", "rt: must-fail laws/other.edit: refused, as it must be");
     against(&planted, &["must-fail edit laws/other: in the output, and not in the tree"]);
 }
 
 #[test]
 fn a_program_that_was_not_run() {
-    let ran = "rt: replay ran as nobody, and wrote what its file 'stdout' has (0 s)";
-    let planted = replaced(&output(), ran, "rt: replay was not run: setpriv is missing");
+    let planted = replaced(&output(), RAN, "rt: replay was not run: setpriv failed here\n");
     against(&planted, &["program replay: the output does not say that it ran"]);
-    let planted = replaced(&output(), ran, "rt: replay proved, and its run FAILED (exit 1)");
-    against(&planted, &["THE GATE FAILED", "rt: replay proved, and its run FAILED (exit 1)"]);
+    let planted =
+        replaced(&output(), RAN, "rt: replay: the program ended with status 1, and not 0\nrt: FAILED: replay (run)\n");
+    against(&planted, &["THE GATE FAILED", "rt: FAILED: replay (run)"]);
 }
 
 #[test]
 fn what_rt_says_at_its_end() {
-    for said in ["rt: in no crate: x.rt", "rt: FAILED laws"] {
-        against(&with_line_after(&output(), "rt: laws proved (3 s)", said), &["THE GATE FAILED", said]);
+    for said in ["rt: FAILED: laws", "rt: FAILED: laws/set_swapped.edit replay (run)"] {
+        against(&with_line_after(&output(), "rt: laws proved", said), &["THE GATE FAILED", said]);
     }
 }
 
@@ -182,7 +193,6 @@ fn a_part_that_says_that_it_failed_before_a_verdict() {
         "commands test",
         "cost test",
         "edits test",
-        "refusals test",
         "rules test",
         "page test",
         "bundle test",
@@ -245,7 +255,7 @@ fn an_archive_without_a_sum_or_with_two() {
 fn an_output_that_is_cut_off_or_empty() {
     let cut = output().split("compare: mixed").next().unwrap().to_string();
     against(&cut, &["THE GATE FAILED", "programs and model", "but with: compare: each: alike"]);
-    let within_a_line = output().split("::made_up: proved\naxioms").next().unwrap().to_string();
+    let within_a_line = output().split("::made_up+run: proved\naxioms libc: libc::read").next().unwrap().to_string();
     against(&within_a_line, &["THE GATE FAILED", "crate replay: the output says nothing of it", "but with: fn replay"]);
     against(
         "",
@@ -269,11 +279,8 @@ fn a_last_line_with_a_failure_or_another_count() {
 fn two_runs_in_one_output() {
     against(&(output() + &output()), &["the output speaks twice of the gate's toolchain and of "]);
     let once = [
-        ("rt: record proved (3 s)", "crate record"),
-        (
-            "rt: must-fail laws/set_always: refused, as it must be (first at specs/X.antt:1:2; 5 s)",
-            "must-fail edit laws/set_always",
-        ),
+        ("rt: record proved", "crate record"),
+        (&format!("rt: must-fail laws/set_always.edit: {REFUSED}"), "must-fail edit laws/set_always"),
         ("compare: alike: 14 recordings with 100 records; seed 4711; 33 s", "programs and model"),
         ("compare-breaks: order-by-tick: found: probe on x.cases, at number 3", "broken rule order-by-tick"),
         ("11 passed, 0 failed", "'N passed, 0 failed'"),
@@ -328,7 +335,7 @@ fn no_theorem() {
     let module = "module _ (T : ℕ)\n  (R : ℕ) where\n  pub demand3 : Demand3 T R\n";
     let found = theorem_in("Holds.antt", &format!("module Other where\n{module}"));
     assert_eq!(found, ["Holds.antt:4", "module _ (T : ℕ)", "  (R : ℕ) where", "  pub demand3 : Demand3 T R"]);
-    assert!(theorem_in("Holds.antt", &module.replace("demand3 :", "demand-3 :")).is_empty());
+    assert!(theorem_in("Holds.antt", &module.replace("demand3 :", "demand_3 :")).is_empty());
 }
 
 #[test]
@@ -343,12 +350,12 @@ fn a_name_that_its_file_does_not_have() {
 #[test]
 fn a_clause_without_a_sentence_or_a_sentence_without_a_clause() {
     let with = |old: &str, new: &str| crate::demand3::pieces(&replaced(&statement(), old, new));
-    let added = with("    pub token-comes :", "    pub brand-new : A\n    pub token-comes :");
-    tree_against(|tree| tree.statement = added.clone(), &["no sentence says what the clause brand-new means"]);
-    let removed = with("    pub token-comes : A → B < C\n", "");
+    let added = with("    pub token_comes :", "    pub brand_new : A\n    pub token_comes :");
+    tree_against(|tree| tree.statement = added.clone(), &["no sentence says what the clause brand_new means"]);
+    let removed = with("    pub token_comes : A → B < C\n", "");
     tree_against(
         |tree| tree.statement = removed.clone(),
-        &["a sentence says what token-comes means, which is no clause"],
+        &["a sentence says what token_comes means, which is no clause"],
     );
     let no_record = with("pub record Demand3 ", "pub record Demand4 ");
     tree_against(|tree| tree.statement = no_record.clone(), &["the statement has no record Demand3"]);

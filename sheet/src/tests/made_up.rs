@@ -60,17 +60,31 @@ pub fn statement() -> String {
     format!("-- Demand 3\nmodule _ (T : ℕ) where\n  pub record Demand3 : Type 0 where\n{clauses}")
 }
 
+pub const REFUSED: &str = "refused, as it must be: ./proofs/X/Answers.antt:1:2: error: `returns`";
+pub const RAN: &str = "rt: replay ran, and wrote what its file stdout has\n";
+pub const RAN_BY_RATTLE: &str = "rt: replay ran (built by Rattle's own compiler), and wrote what its file stdout has\n";
+const EARLIER: &str = "an earlier run on this machine proved the same files over the same libraries";
+
+/// The same output, but that of a crate only says that it is kept.
+pub fn with_kept(output: &str, name: &str) -> String {
+    let (before, rest) = output.split_once(&format!("== {name}\n")).unwrap();
+    let (_, after) = rest.split_once(&format!("rt: {name} proved\n")).unwrap();
+    format!("{before}rt: {name} is kept: {EARLIER}\n{after}")
+}
+
 pub fn output() -> String {
     let mut lines = IDENTITY.to_string();
     lines += "sheet test: ok: 99 cases\ncommands test: ok: 7 commands\ncost test: as it must be\n";
-    lines += "edits test: 2 edits, each named\nrefusals test: as the definitions say\nrules test: ok: 6 rules\n";
+    lines += "edits test: 2 edits, each named\nrules test: ok: 6 rules\n";
     for Crate { name, is_program, .. } in tree().crates {
         lines += &crate_lines(&name, is_program);
     }
     for edit in tree().edits {
-        lines += &format!("rt: must-fail {}: refused, as it must be (first at specs/X.antt:1:2; 5 s)\n", edit.name);
+        lines += &format!("rt: must-fail {}.edit: {REFUSED}\n", edit.name);
     }
-    lines += "rt: replay ran as nobody, and wrote what its file 'stdout' has (0 s)\n";
+    lines += RAN;
+    lines += RAN_BY_RATTLE;
+    lines += "rt: ok; handles allowed: none; must-fail edits: 2 refused; every proof and must-fail edit was done in this run\n";
     lines += "test result: ok. 31 passed; 0 failed; 0 ignored; 0 measured; 0 filtered out; finished in 0.10s\n";
     lines += "compare: bin/run-program with target/model/release/model, seed 4711\n";
     lines += "compare: each: alike (13 recordings, 89 records, 8 rows, 984 cases so far; 7 s)\n";
@@ -93,16 +107,18 @@ pub fn sum() -> String {
 fn crate_lines(name: &str, is_program: bool) -> String {
     let (named, counted, linked) = if is_program {
         (
-            "axioms libc: libc::read, libc::write (2 of the 50 declared)\naxioms os: os::c::rattle_errno, ... (2 of the 10 declared)\n",
-            " axioms=4 target=x86_64-unknown-linux-gnu",
-            "linked target=x86_64-unknown-linux-gnu files=/tmp/target/obj/replay.o,/kit/lib/libos_c.a\n",
+            "axioms libc: libc::read, libc::write (2 of the 50 declared)\naxioms os: os::c::rattle_errno, ... (2 of the 10 declared)\n\
+             axioms std: none reached of the 2 declared\n",
+            " axioms=4 target=x86_64-unknown-linux-gnu cpu=x86-64-v2",
+            "linked target=x86_64-unknown-linux-gnu files=out/replay.o,/kit/lib/libos_c.a\n\
+             linked target=x86_64-unknown-linux-gnu files=out/replay.by-rattle.o,/kit/lib/libos_c.a\n",
         )
     } else {
-        ("", "", "")
+        ("axioms libc: none reached of the 50 declared\n", "", "")
     };
     format!(
-        "struct {name}::Made: proved\nfn {name}::made_up: proved\n{named}\
-         logic=proved functions=1{counted} sum=0123abcd native=nat logic-built=trusted\n{linked}rt: {name} proved (3 s)\n"
+        "== {name}\nstruct {name}::Made: proved\nfn {name}::made_up: proved\nfn {name}::made_up+run: proved\n{named}\
+         logic=proved functions=1{counted} sum=0123abcd native=nat logic-built=trusted\n{linked}rt: {name} proved\n"
     )
 }
 

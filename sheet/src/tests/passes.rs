@@ -20,11 +20,11 @@ fn all_passes() {
 fn the_first_page_is_enough_to_sign_by() {
     let sheet = sheet_of(&output());
     let sum = sum();
-    let signed = ["c0ffee of 2026", "sha256 5eed", &sum, "rattle-kit-7", "rt staticlib norakkeun", "bin/bundle"];
-    let proved = ["demand3", "crates/promises/specs/Demand/Holds.antt", "AnsweredInto", "one-record"];
+    let signed = ["c0ffee of 2026", "sha256 5eed", &sum, "rattle-kit-7", "--archive norakkeun", "bin/bundle"];
+    let proved = ["demand3", "crates/promises/specs/Demand/Holds.antt", "AnsweredInto", "one_record"];
     let trusted = ["LLVM", "norakkeun.h", "memcpy", "linker", "libos_c.a", "rattle_errno", "write", "do not name"];
     let compared = ["31 passed", "seed 4711", "seed 4712", "seed 4713", "2 broken rules", "both examples ran"];
-    let ran = ["9 of 9 crates, with 9 functions", "2 of 2 refused", "sheet, commands, cost, edits, refusals, rules"];
+    let ran = ["9 of 9 crates, with 9 functions", "2 of 2 refused", "sheet, commands, cost, edits, rules"];
     let says =
         [&signed[..], &proved, &trusted, &compared, &ran, &["Milliseconds", "holder", "an hour", "Signature"]].concat();
     let first_of_text = text(&sheet).split("\nAppendix\n").next().unwrap().to_string();
@@ -114,7 +114,7 @@ fn firmware_that_this_machine_does_not_run() {
 fn demand_3_of_other_sources_or_not_proved() {
     let other = text(&sheet_of(&replaced(&output(), "sha256 5eed", "sha256 feed")));
     assert!(other.contains("that it is of the text below is not shown") && !other.contains("Proved in this run"));
-    let not = text(&sheet_of(&replaced(&output(), "rt: promises proved (3 s)", "rt: promises NOT PROVED (3 s)")));
+    let not = text(&sheet_of(&replaced(&output(), "rt: promises proved", "rt: promises NOT PROVED")));
     assert!(not.contains("NOT PROVED: the output does not say") && not.contains("NOT PROVED: `demand3`"));
 }
 
@@ -124,4 +124,31 @@ fn an_archive_that_reaches_a_library_of_the_kit() {
     tree.crates.iter_mut().find(|item| item.name == "norakkeun").unwrap().knows.push("stream".to_string());
     let page = page(&sheet(&tree, &read(&output())));
     assert!(page.contains("It uses the toolchain's libraries io, libc, os,") && !page.contains("assume nothing"));
+}
+
+/// What rt ci takes from an earlier run of the same files passes, and the sheet says so and claims no more.
+#[test]
+fn crates_that_are_kept() {
+    let kept = ["promises", "norakkeun", "replay"].iter().fold(output(), |output, name| with_kept(&output, name));
+    let sheet = sheet_of(&kept);
+    looks_passed(&sheet);
+    both_say_on_top(&sheet, &["Of 9 crates 3 were not proved in this run"]);
+    let text = text(&sheet);
+    let says = [
+        "6 of 9 crates, with 6 functions",
+        "3 by an earlier run of the same files",
+        "Proved by an earlier run of the same files",
+        "kept: named in the output of the earlier run",
+    ];
+    for said in says {
+        assert!(text.split_whitespace().collect::<Vec<&str>>().join(" ").contains(said), "not said: {said}\n{text}");
+    }
+    assert!(!text.contains("Proved in this run") && !text.contains("assume nothing of any C function"));
+}
+
+#[test]
+fn a_program_that_one_compiler_alone_builds() {
+    let sheet = sheet_of(&replaced(&output(), RAN_BY_RATTLE, ""));
+    looks_passed(&sheet);
+    both_say_on_top(&sheet, &["The program replay ran as LLVM builds it alone."]);
 }
