@@ -41,19 +41,6 @@ module _ {T : ℕ} (t : Table) (along : Along T 0 t) (j : ℕ) (tick : Tick) (s 
       (count_mono (earlier n) idle refl live t.rows t.rows
       (λ k lives. turn_earlier n (row_in t k) (ltb-true 0 (row_in t k).turn.0 lives) (omega (arith, turns_given p k))))
 
-  -- a new request has all live ones before it
-  pub ahead_opened : ahead (next jobs t (Open j tick s)).rows n ≡ count live t.rows
-  ahead_opened =
-      let r = opened_row t (time_at t tick.0) s in
-      rw (next_accepted jobs t (Open j tick s) ok)
-      (omega (
-        arith,
-        all_before,
-        ahead_set t.rows j r (omega (arith, along.wide, open_below jobs t j tick s ok)) n,
-        ap bit ((lower_ahead n).opening.idle_fails (row_in t j) (open_idle jobs t j tick s ok)),
-        ap bit ((lower_ahead n).late_fails r (omega arith)),
-      ))
-
 -- ---- Plain numbers
 
 -- to be below T is to be at most T-1
