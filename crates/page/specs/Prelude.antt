@@ -1,6 +1,6 @@
 -- The names from outside that this crate's definitions and proofs use, passed on by one module.
 pub use Rattle.std.specs.Prelude.{◌-◌, ◌<◌, ◌≤◌, ℕ, not, List, ◌≡◌, refl, get_or, length}
-pub use Rattle.std.proofs.Common.{◌∙◌, ap, subst, sym, zero-add, arith, rules, le-ltb, lt-ltb}
+pub use Rattle.std.proofs.Common.{◌∙◌, ap, subst, sym, zero-add, arith, le-ltb, lt-ltb}
 pub use Rattle.std.proofs.lemmas.Bool.{not-false}
 pub use Rattle.laws.specs.CaseLaws.{leaves_is, outcome_is}
 pub use Rattle.laws.specs.Cases.{fine, keep_unless, unless}
@@ -10,7 +10,7 @@ pub use Rattle.laws.specs.FrontLaws.{laid_front, then, wrote_length}
 pub use Rattle.laws.specs.Determined.{determined, told_apart}
 pub use Rattle.event.specs.Answers.{answer_by}
 pub use Rattle.event.specs.Limits.{jobs}
-pub use Rattle.event.specs.RefusalLaws.{refusal_of_number_of}
+pub use Rattle.event.proofs.RefusalLaws.{refusal_of_number_of}
 pub use Rattle.decimal.specs.TextLaws.{length_text_u64}
 pub use Rattle.rows.specs.Line.{line, row_of}
 pub use Rattle.rows.specs.declared.row.Row.{Row}
