@@ -25,7 +25,7 @@ pub use Rattle.event.specs.Answers.{answer_by}
 pub use Rattle.event.specs.EventLaws.{every_kind}
 pub use Rattle.event.specs.Events.{about, actor, described, job_of, kind_of, of_role, refusals_of, set_of, tick_of}
 pub use Rattle.event.specs.Limits.{highest, jobs}
-pub use Rattle.event.specs.RefusalLaws.{clear_named, refusal_of_number_of}
+pub use Rattle.event.proofs.RefusalLaws.{clear_named, refusal_of_number_of}
 pub use Rattle.event.specs.Refusals.{among, cases_by, documented, number_of}
 pub use Rattle.event.specs.declared.clock.Tick.{Tick}
 pub use Rattle.event.specs.declared.events.Event.{Event}

@@ -7,7 +7,7 @@ pub use Rattle.laws.specs.Cases.{Outcome, fine, outcome}
 unfoldable pub use Rattle.laws.specs.Cases.{case}
 pub use Rattle.event.specs.Clock.{moment_of}
 pub use Rattle.event.specs.Events.{about, job_of, refusals_of, set_of, tick_of}
-pub use Rattle.event.specs.RefusalLaws.{cases_positive}
+pub use Rattle.event.proofs.RefusalLaws.{cases_positive}
 pub use Rattle.event.specs.declared.clock.Moment.{Moment}
 pub use Rattle.event.specs.declared.events.Event.{Event}
 pub use Rattle.request.specs.declared.seen.Seen.{Seen}

@@ -1,8 +1,8 @@
 -- True time is real time, wraps and all.
-use Rattle.event.specs.Prelude.{◌%◌, ◌+◌, ◌<◌, List, ◌^◌, acceptance_tells, ap, arith, case, clear, fine, le-ltb, lt-leb, ltb-false, map, outcome_is, past, refl, sym, ℕ, ◌∙◌, ◌∷◌, ◌≡◌, ◌≤◌}
+use Rattle.event.specs.Prelude.{◌%◌, ◌+◌, ◌<◌, ◌^◌, acceptance_tells, ap, arith, case, clear, fine, le-ltb, lt-leb, ltb-false, outcome_is, past, refl, sym, ℕ, ◌∙◌, ◌≡◌, ◌≤◌}
 use Rattle.laws.specs.Chains.{none}
 use Rattle.event.specs.Limits.{highest}
-use Rattle.event.specs.Clock.{difference, hour, clock_cases, forward, forwards, shown, Often, ended, then}
+use Rattle.event.specs.Clock.{difference, hour, clock_cases, forward, shown}
 
 -- the low 32 bits of an accepted time are the tick that gave it
 pub forward_low : (time tick n : ℕ) → tick < 2 ^ 32 → forward time tick ≡ fine n → n % 2 ^ 32 ≡ tick
@@ -34,9 +34,3 @@ forward_real time n low near last =
     let Near-by = le-ltb hour (difference time (shown n)) (omega arith) in
     let within = le-ltb highest (time + difference time (shown n)) (omega arith) in
     sym (outcome_is _ (past forth (past Near-by (past within none)))) ∙ ap fine sum
-
--- ticks taken often enough: true time is real time at each of them
-pub forwards_real : {time : ℕ} {ns : List ℕ} → Often time ns → forwards time (map shown ns) ≡ map fine ns
-unfolding forwards
-forwards_real ended = refl
-forwards_real (then {time = time} {n = n} low near last more) = rw (forward_real time n low near last) (ap (λ l. fine n ∷ l) (forwards_real more))

@@ -1,5 +1,4 @@
--- What the contracts of this crate say, and the laws of true time, refusals and events.
-pub mod AnswerLaws
+-- What the contracts of this crate say, and the laws of true time and of events.
 pub mod Answers
 pub mod Clock
 pub mod ClockLaws

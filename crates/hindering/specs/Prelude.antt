@@ -10,7 +10,7 @@ pub use Rattle.laws.specs.Determined.{determined, told_apart}
 pub use Rattle.laws.specs.Front.{over}
 pub use Rattle.event.specs.Answers.{answer_by}
 pub use Rattle.event.specs.Limits.{jobs}
-pub use Rattle.event.specs.RefusalLaws.{refusal_of_number_of}
+pub use Rattle.event.proofs.RefusalLaws.{refusal_of_number_of}
 pub use Rattle.event.specs.Refusals.{number_of}
 pub use Rattle.event.specs.declared.refusal.Refusal.{Refusal}
 pub use Rattle.event.specs.declared.refusal.Refusal.TheVariants.{NoSuchJob, NotLive, ShortList, UnsoundTable}

@@ -27,7 +27,7 @@ pub use Rattle.event.specs.Clock.{clock_cases, clock_refusals}
 unfoldable pub use Rattle.event.specs.Clock.{forward}
 pub use Rattle.event.specs.Events.{Role, about, actor, refusals_of, has_job, job_of, names, nobody, opener, set_of, tick_of}
 pub use Rattle.event.specs.Limits.{jobs}
-pub use Rattle.event.specs.RefusalLaws.{cases_positive, first_named}
+pub use Rattle.event.proofs.RefusalLaws.{cases_positive, first_named}
 pub use Rattle.event.specs.Refusals.{cases_by, refusing}
 pub use Rattle.event.specs.declared.clock.Tick.{Tick}
 pub use Rattle.event.specs.declared.events.Event.TheVariants.{Ask, Beat, Complete, GiveUp, Open, Release}

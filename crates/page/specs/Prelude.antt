@@ -10,7 +10,7 @@ pub use Rattle.laws.specs.FrontLaws.{laid_front, then, wrote_length}
 pub use Rattle.laws.specs.Determined.{determined, told_apart}
 pub use Rattle.event.specs.Answers.{answer_by}
 pub use Rattle.event.specs.Limits.{jobs}
-pub use Rattle.event.specs.RefusalLaws.{refusal_of_number_of}
+pub use Rattle.event.proofs.RefusalLaws.{refusal_of_number_of}
 pub use Rattle.decimal.specs.TextLaws.{length_text_u64}
 pub use Rattle.rows.specs.Line.{line, row_of}
 pub use Rattle.rows.specs.declared.row.Row.{Row}

@@ -23,7 +23,7 @@ pub use Rattle.event.specs.Clock.{clock_refusals, difference, gone_back, leapt, 
 unfoldable pub use Rattle.event.specs.Clock.{forward}
 pub use Rattle.event.specs.Events.{about, refusals_of, has_job, job_of, names, opens, set_of, tick_of}
 pub use Rattle.event.specs.Limits.{highest, jobs}
-pub use Rattle.event.specs.RefusalLaws.{some_first}
+pub use Rattle.event.proofs.RefusalLaws.{some_first}
 pub use Rattle.event.specs.Refusals.{among, cases_by, number_of, refusing}
 pub use Rattle.event.specs.declared.clock.Tick.{Tick}
 pub use Rattle.event.specs.declared.events.Event.TheVariants.{Ask, Beat, Complete, GiveUp, Open, Release}

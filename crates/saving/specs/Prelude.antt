@@ -11,7 +11,7 @@ pub use Rattle.laws.specs.FrontLaws.{laid_front, laid_laid, laid_none, laid_part
 pub use Rattle.fields.specs.PackingLaws.{length_pack}
 pub use Rattle.event.specs.Answers.{answer_by}
 pub use Rattle.event.specs.Limits.{jobs}
-pub use Rattle.event.specs.RefusalLaws.{refusal_of_number_of}
+pub use Rattle.event.proofs.RefusalLaws.{refusal_of_number_of}
 pub use Rattle.rows.specs.Line.{row_of}
 pub use Rattle.rows.specs.declared.row.Row.{Row}
 pub use Rattle.soundness.specs.Beside.{sound_by}

@@ -2,7 +2,7 @@
 use Rattle.event.specs.Prelude.{Kind, Known, Moment, Option, Outcome, ap, none, refl, some, told_apart, ℕ, ◌≡◌}
 use Rattle.event.specs.Answers.{answer_by}
 use Rattle.event.specs.Clock.{moment_of}
-use Rattle.event.specs.RefusalLaws.{refusal_of_number_of}
+use Rattle.event.proofs.RefusalLaws.{refusal_of_number_of}
 use Rattle.event.specs.declared.clock.Moment.TheVariants as Moments
 use Rattle.event.specs.Events.{known_of}
 use Rattle.event.specs.declared.events.Known.TheVariants as Knowns
