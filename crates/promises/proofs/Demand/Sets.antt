@@ -4,11 +4,11 @@ use Rattle.event.specs.declared.events.Event.{Event}
 use Rattle.arbiter.specs.Answers as Answers
 use Rattle.promises.specs.Demand.Statement.{AskedSet, Has}
 use Rattle.promises.specs.History.Words.{lists, Along, Bears, ours}
-use Rattle.promises.specs.History.Events.{next_either}
+use Rattle.promises.proofs.History.Events.{next_either}
 use Rattle.kept.specs.Changes.{ahead_accepted, alike_quiet}
-use Rattle.promises.specs.History.Count.{along_accepted, along_next, way_falls}
-use Rattle.promises.specs.History.Row.{bears_after, lives, sets_after, waiting_is}
-use Rattle.promises.specs.History.Woken.{listed_after, unnamed}
+use Rattle.promises.proofs.History.Count.{along_accepted, along_next, way_falls}
+use Rattle.promises.proofs.History.Row.{bears_after, lives, sets_after, waiting_is}
+use Rattle.promises.proofs.History.Woken.{listed_after, unnamed}
 use Rattle.kept.specs.Words.{Accepts}
 use Rattle.kept.specs.Accepted.{acts, answer_accepted, next_accepted, passed}
 use Rattle.kept.specs.Decisions.{decided_sets}

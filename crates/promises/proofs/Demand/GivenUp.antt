@@ -3,9 +3,9 @@ use Rattle.promises.specs.Prelude.{Ask, Bool, GiveUp, List, Row, Table, Tick, â—
 use Rattle.event.specs.declared.events.Event.{Event}
 use Rattle.promises.specs.Demand.Statement.{GoneForGood}
 use Rattle.promises.specs.History.Words.{Bears, given_up, ours, taken}
-use Rattle.promises.specs.History.Events.{accepts}
-use Rattle.promises.specs.History.Count.{along_next}
-use Rattle.promises.specs.History.Turn.{declared_run}
+use Rattle.promises.proofs.History.Events.{accepts}
+use Rattle.promises.proofs.History.Count.{along_next}
+use Rattle.promises.proofs.History.Turn.{declared_run}
 use Rattle.kept.specs.Accepted.{next_accepted, passed}
 use Rattle.kept.specs.GivenUp.{give_up_leaves}
 use Rattle.kept.specs.Sound.Tests.{table_sound}

@@ -2,9 +2,9 @@
 -- did, without what it has given up.
 use Rattle.promises.specs.Prelude.{Ask, Beat, Bool, Complete, GiveUp, List, Open, Release, Row, Table, Tick, [], ◌<◌, ◌∙◌, ◌∷◌, ◌≡◌, about, accepted, ap, arith, cond, course, eqb, eqb-true, false, false≢true, jobs, next, refl, row_in, run, set_of, subst, sym, true, without, without_none, without_twice, ℕ}
 use Rattle.event.specs.declared.events.Event.{Event}
-use Rattle.promises.specs.History.Events.{next_either}
+use Rattle.promises.proofs.History.Events.{next_either}
 use Rattle.promises.specs.History.Words.{Along, given_up, given_up_by, given_up_of, taken}
-use Rattle.promises.specs.History.Count.{along_next}
+use Rattle.promises.proofs.History.Count.{along_next}
 use Rattle.kept.specs.Accepted.{next_accepted}
 use Rattle.kept.specs.Changes.{changes, unnamed_keeps}
 use Rattle.kept.specs.GivenUp.{give_up_leaves}

@@ -3,8 +3,8 @@
 use Rattle.promises.specs.Prelude.{Ask, Complete, GiveUp, List, Open, Outcome, Report, Row, Table, Tick, [], ◌++◌, ◌∷◌, ◌≡◌, ahead, all, answer, below, count, course, distinct, false, fine, first, idle, in_way, inside, jobs, keep, leaves, lined, meet, meets, next, outcome, place, refl, refused, report, run, saysWait, says_woke, settled, sound, start_answer, start_table, true, under, union, without, woken, ℕ}
 use Rattle.event.specs.declared.events.Event.{Event}
 use Rattle.promises.specs.Demand.Statement.{Demand3, Supposed, now}
-use Rattle.promises.specs.Demand.Holds.{demand3}
-use Rattle.promises.specs.Demand.Example.{answers, at, reporting, row, table}
+use Rattle.promises.proofs.Demand.Holds.{demand3}
+use Rattle.promises.proofs.Demand.Example.{answers, at, reporting, row, table}
 use Rattle.promises.specs.History.Words.{Arbiter, lists, ours, partings, tally_of}
 
 -- jobs 1, 2 and 3 declare {0, 3}, {1, 4} and {2}; after them job 4 opens {0, 1, 2}, and 0 opens {4} later

@@ -3,7 +3,7 @@
 use Rattle.promises.specs.Prelude.{Ask, Beat, Bool, Complete, List, Open, Outcome, Report, Row, Said, Table, Tick, [], ◌++◌, ◌-◌, ◌∙◌, ◌∷◌, ◌≡◌, ahead, all, answer, ap, below, count, course, distinct, false, fine, first, idle, in_way, inside, jobs, keep, leaves, length, lined, live, meet, meets, next, outcome, place, refl, refused, replicate, report, row_in, run, saysWait, says_woke, settled, sound, start_answer, start_table, sym, true, under, union, woken, ℕ}
 use Rattle.event.specs.declared.events.Event.{Event}
 use Rattle.promises.specs.Demand.Statement.{Demand3, Supposed, after_opening, n, now, p}
-use Rattle.promises.specs.Demand.Holds.{demand3}
+use Rattle.promises.proofs.Demand.Holds.{demand3}
 use Rattle.promises.specs.History.Words.{completions, lists, partings, tally_of, Arbiter, ours}
 
 -- the tick of that number

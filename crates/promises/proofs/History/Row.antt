@@ -2,7 +2,7 @@
 use Rattle.promises.specs.Prelude.{◌&&◌, ◌<◌, Bool, List, Row, Table, accepted, ap, ap₂, arith, blocked, cond, false, granted_keeps, granted_row, in_way, jobs, live, lt-ltb, ltb, ltb-false, names, not, refl, rested_row, row_in, subst, swept_keeps, swept_row, sym, token, true, true≢false, union, union_empty, waiting, waiting_reads, ◌||◌, ℕ, ◌∙◌, ◌≡◌}
 use Rattle.event.specs.declared.events.Event.{Event}
 use Rattle.promises.specs.History.Words.{Bears}
-use Rattle.promises.specs.History.Count.{along_accepted}
+use Rattle.promises.proofs.History.Count.{along_accepted}
 use Rattle.kept.specs.Words.{Accepts, Decided, Alike, Fate, acted, same, stayed}
 use Rattle.kept.specs.Accepted.{was_sound}
 use Rattle.kept.specs.Decisions.{decided_sets, sweeps}

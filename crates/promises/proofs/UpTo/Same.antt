@@ -5,7 +5,7 @@ use Rattle.event.specs.declared.events.Event.{Event}
 use Rattle.promises.specs.History.Words.{is_fine}
 use Rattle.kept.specs.Sound.Words.{seen}
 use Rattle.promises.specs.UpTo.Statement.{Agree, is_of_them, but_number, of_them}
-use Rattle.promises.specs.UpTo.Rows.{alike_up_to, earlier_seen, row_up_to, seen_in_lem}
+use Rattle.promises.proofs.UpTo.Rows.{alike_up_to, earlier_seen, row_up_to, seen_in_lem}
 
 -- a refusal is one whatever the value would have been
 unless_some : {A : Type 0} (x y : A) (k : ℕ) → 0 < k → unless k x ≡ unless k y

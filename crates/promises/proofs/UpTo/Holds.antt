@@ -1,18 +1,18 @@
 -- Requests of turns up to n: what they live through depends on the rows of turns up to n alone. The proof.
 use Rattle.promises.specs.Prelude.{◌+◌, ◌++◌, Ask, Beat, Bool, Case, Complete, GiveUp, List, Open, Release, Row, Table, TurnsSpent, [], about, accepted, among, answer, ap, arith, refusals_of, cases, cond, course, earlier_turn, false, false≢true, giving_up, has_job, job_of, jobs, keep, last_after, late_in, late_job, length, line, list_cases, moved, next, outcome, refl, releasing, row_after, row_in, rows_after, rows_with, run, saysDone, saysGranted, saysWait, says_woke, set, set_of, settled, sound, sym, tick_of, time_at, true, union, wakes, woken, ℕ, ◌∙◌, ◌∷◌, ◌≡◌}
 use Rattle.event.specs.declared.events.Event.{Event}
-use Rattle.promises.specs.History.Events.{accepts}
+use Rattle.promises.proofs.History.Events.{accepts}
 use Rattle.promises.specs.History.Words.{is_fine, taken, Along}
-use Rattle.promises.specs.History.Count.{along_next}
+use Rattle.promises.proofs.History.Count.{along_next}
 use Rattle.kept.specs.Soundness.{next_sound}
 use Rattle.kept.specs.Words.{Accepts}
 use Rattle.kept.specs.Accepted.{next_accepted, open_idle}
 use Rattle.kept.specs.Sound.Words.{seen}
 use Rattle.promises.specs.UpTo.Statement.{Agree, SameUpTo, ReportedAlike, but_number, of_them, up_to, TakenAlike, is_of_them}
-use Rattle.promises.specs.UpTo.Events.{listed_woken, others, refused_stays}
-use Rattle.promises.specs.UpTo.Line.{late_up_to}
-use Rattle.promises.specs.UpTo.Rows.{set_up_to, settled_up_to}
-use Rattle.promises.specs.UpTo.Same.{but_number_lem, fine_but_number, same_blocked, same_cases, same_of, same_open, same_report, same_row, same_time}
+use Rattle.promises.proofs.UpTo.Events.{listed_woken, others, refused_stays}
+use Rattle.promises.proofs.UpTo.Line.{late_up_to}
+use Rattle.promises.proofs.UpTo.Rows.{set_up_to, settled_up_to}
+use Rattle.promises.proofs.UpTo.Same.{but_number_lem, fine_but_number, same_blocked, same_cases, same_of, same_open, same_report, same_row, same_time}
 
 module _ {T n : ℕ} {t u : Table} (along-t : Along T n t) (along-u : Along T n u) (sound-t : sound t ≡ true)
     (sound-u : sound u ≡ true) (a : Agree n t u) where

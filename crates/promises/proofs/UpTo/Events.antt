@@ -3,17 +3,17 @@
 use Rattle.promises.specs.Prelude.{◌&&◌, ◌+◌, Bool, Table, [], about, accepted, ap, arith, cond, course, earlier_turn, eqb, eqb-true, ext_get_or, false, false≢true, has_job, idle, job_of, jobs, keep, length-map, lt-ltb, ltb-true, next, refl, row_in, sym, true, true≢false, turn_earlier, wakes, woken, ℕ, ◌∙◌, ◌∷◌, ◌≡◌}
 use Rattle.event.specs.declared.events.Event.{Event}
 use Rattle.promises.specs.Demand.Statement.{Beside}
-use Rattle.promises.specs.Demand.Others.{unmoved}
+use Rattle.promises.proofs.Demand.Others.{unmoved}
 use Rattle.promises.specs.History.Words.{lists, taken, Along}
-use Rattle.promises.specs.History.Events.{next_either}
-use Rattle.promises.specs.History.Count.{along_next}
-use Rattle.promises.specs.History.Turn.{back_run}
+use Rattle.promises.proofs.History.Events.{next_either}
+use Rattle.promises.proofs.History.Count.{along_next}
+use Rattle.promises.proofs.History.Turn.{back_run}
 use Rattle.kept.specs.Accepted.{next_accepted}
 use Rattle.kept.specs.Woken.{wakes_woken}
 use Rattle.kept.specs.Sound.Words.{seen}
 use Rattle.promises.specs.UpTo.Statement.{is_of_them, of_them, up_to}
-use Rattle.promises.specs.UpTo.Line.{woken_none, woken_up_to}
-use Rattle.promises.specs.UpTo.Rows.{row_up_to, seen_out}
+use Rattle.promises.proofs.UpTo.Line.{woken_none, woken_up_to}
+use Rattle.promises.proofs.UpTo.Rows.{row_up_to, seen_out}
 
 -- a refused event leaves the table
 pub refused_stays : (t : Table) (e : Event) → taken t e ≡ false → next jobs t e ≡ t

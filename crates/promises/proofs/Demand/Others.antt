@@ -3,11 +3,11 @@ use Rattle.promises.specs.Prelude.{Bool, List, Row, Table, [], ◌&&◌, ◌+◌
 use Rattle.event.specs.declared.events.Event.{Event}
 use Rattle.promises.specs.Demand.Statement.{Beside, Unmoved}
 use Rattle.promises.specs.History.Words.{Along, Bears, heeded, heeded_by, ours, taken, tally_of}
-use Rattle.promises.specs.History.Events.{next_either}
+use Rattle.promises.proofs.History.Events.{next_either}
 use Rattle.kept.specs.Changes.{ahead_accepted, changes, leaves_by_own, lower_ahead, lower_way, way_accepted}
 use Rattle.kept.specs.Words.{Accepts, Alike, ByOpening}
-use Rattle.promises.specs.History.Row.{row_after_lem, swept_alike, swept_rests}
-use Rattle.promises.specs.History.Woken.{listed_after}
+use Rattle.promises.proofs.History.Row.{row_after_lem, swept_alike, swept_rests}
+use Rattle.promises.proofs.History.Woken.{listed_after}
 use Rattle.kept.specs.Accepted.{was_sound}
 use Rattle.kept.specs.Rows.{waiting_alike}
 

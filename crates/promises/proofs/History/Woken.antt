@@ -2,7 +2,7 @@
 use Rattle.promises.specs.Prelude.{◌&&◌, Bool, Table, accepted, ap, bit, count, eqb, false, jobs, listed_once, names, refl, row_in, sym, true, waiting, wakes, woke, woken, ℕ, ◌∙◌, ◌≡◌}
 use Rattle.event.specs.declared.events.Event.{Event}
 use Rattle.promises.specs.History.Words.{Bears}
-use Rattle.promises.specs.History.Row.{bears_after, lives}
+use Rattle.promises.proofs.History.Row.{bears_after, lives}
 use Rattle.kept.specs.Words.{Accepts}
 use Rattle.kept.specs.Accepted.{named_rests, next_accepted}
 use Rattle.kept.specs.Woken.{wakes_woken}

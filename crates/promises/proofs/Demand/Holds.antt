@@ -2,15 +2,15 @@
 use Rattle.promises.specs.Prelude.{Ask, Bool, GiveUp, List, Open, Report, Table, Tick, ◌&&◌, ◌+◌, ◌-◌, ◌∙◌, ◌≡◌, ◌≤◌, acceptance_tells, ahead, ap, arith, bit, cond, count, earlier, earlier_turn, eqb, false, fine, idle, in_way, jobs, leb, length-replicate, live, ltb, meets, ne_eqb, not, refl, report, report_cases, reported, row_in, run, saysDone, saysToken, saysWait, start_answer, start_table, subst, sym, token, true, without, ℕ}
 use Rattle.event.specs.declared.events.Event.{Event}
 use Rattle.promises.specs.Demand.Statement.{Demand3, HasParted, Supposed, after_opening, before, n, now}
-use Rattle.promises.specs.Demand.GivenUp.{gone_for_good}
-use Rattle.promises.specs.Demand.Others.{run_heeded, tally_heeded, unmoved, way_bounded}
-use Rattle.promises.specs.Demand.Sets.{ask_granted, ask_has_token, ask_says_lem}
-use Rattle.promises.specs.Demand.Token.{ahead_opened, all_before, along_opened, below_at_most, declared_opened, token_by_all, token_by_earlier, token_told}
-use Rattle.promises.specs.History.Events.{accepts}
+use Rattle.promises.proofs.Demand.GivenUp.{gone_for_good}
+use Rattle.promises.proofs.Demand.Others.{run_heeded, tally_heeded, unmoved, way_bounded}
+use Rattle.promises.proofs.Demand.Sets.{ask_granted, ask_has_token, ask_says_lem}
+use Rattle.promises.proofs.Demand.Token.{ahead_opened, all_before, along_opened, below_at_most, declared_opened, token_by_all, token_by_earlier, token_told}
+use Rattle.promises.proofs.History.Events.{accepts}
 use Rattle.promises.specs.History.Words.{Along, Bears, completing_by, completions, given_up, in_its_way, ours, parting_by, partings, parts_by_other, parts_by_own}
-use Rattle.promises.specs.History.Count.{along_run}
-use Rattle.promises.specs.History.Partings.{parted_run, parted_then, stays_parted}
-use Rattle.promises.specs.History.Turn.{declared_run}
+use Rattle.promises.proofs.History.Count.{along_run}
+use Rattle.promises.proofs.History.Partings.{parted_run, parted_then, stays_parted}
+use Rattle.promises.proofs.History.Turn.{declared_run}
 use Rattle.kept.specs.Soundness.{start_fresh, start_ranges}
 use Rattle.kept.specs.Words.{Accepts}
 use Rattle.kept.specs.Accepted.{answer_accepted, next_accepted}

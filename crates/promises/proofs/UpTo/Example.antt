@@ -3,10 +3,10 @@
 use Rattle.promises.specs.Prelude.{Ask, Beat, GiveUp, List, Table, [], ahead, all, answer, arith, below, count, course, distinct, first, in_way, inside, jobs, keep, leaves, lined, meet, meets, next, outcome, place, refl, run, settled, sound, start_table, true, under, union, without, woken, ℕ, ◌∷◌, ◌≡◌}
 use Rattle.event.specs.declared.events.Event.{Event}
 use Rattle.promises.specs.Demand.Statement.{after_opening}
-use Rattle.promises.specs.Demand.Example.{all_open, at, this}
+use Rattle.promises.proofs.Demand.Example.{all_open, at, this}
 use Rattle.promises.specs.History.Words.{Along, lists}
 use Rattle.promises.specs.UpTo.Statement.{Agree, SameUpTo}
-use Rattle.promises.specs.UpTo.Holds.{up_to_decides}
+use Rattle.promises.proofs.UpTo.Holds.{up_to_decides}
 
 -- the table where 7 has not opened
 abbrev unopened : Table

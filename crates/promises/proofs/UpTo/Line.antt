@@ -3,7 +3,7 @@ use Rattle.promises.specs.Prelude.{◌&&◌, ◌+◌, ◌-◌, ◌<◌, Bool, In
 use Rattle.kept.specs.Woken.{keep_none}
 use Rattle.kept.specs.Sound.Words.{seen}
 use Rattle.promises.specs.UpTo.Statement.{up_to}
-use Rattle.promises.specs.UpTo.Rows.{row_up_to, seen_in_lem, waiting_up_to}
+use Rattle.promises.proofs.UpTo.Rows.{row_up_to, seen_in_lem, waiting_up_to}
 
 -- ---- Keeping of what is kept
 

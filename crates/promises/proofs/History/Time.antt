@@ -4,7 +4,7 @@ use Rattle.event.specs.declared.events.Event.{Event}
 use Rattle.event.specs.Clock.{Often, latest, shown, then}
 use Rattle.event.specs.ClockLaws.{moved_on}
 use Rattle.promises.specs.History.Words.{heeded, heeded_by}
-use Rattle.promises.specs.History.Events.{next_either}
+use Rattle.promises.proofs.History.Events.{next_either}
 
 -- on a table whose true time is real time, let ns be the real times of the events that are accepted, which the counter shows in
 -- their ticks; as long as each comes at most an hour after the one before, and none before it, true time is the last of them,
