@@ -53,5 +53,5 @@ pub use Rattle.lines.specs.WordLaws.{word_answer}
 pub use Rattle.record.specs.Format.{decode, size}
 pub use Rattle.record.specs.RoundTrip.{read_job}
 pub use Rattle.recording.specs.Recording.{place_after, readings}
-pub use Rattle.recording.specs.RecordingLaws.{drop_place, place_moves, readings_cons, readings_nil, take_place}
+pub use Rattle.recording.proofs.RecordingLaws.{drop_place, place_moves, readings_cons, readings_nil, take_place}
 pub use Rattle.going.specs.declared.Gone.{Gone}
