@@ -5,7 +5,7 @@ use Rattle.decision.specs.Changes.{change_for, refusal_cases}
 use Rattle.arbiter.specs.Bounded.{bounds_of}
 use Rattle.arbiter.specs.Refusals.{seen_in}
 use Rattle.arbiter.specs.Sound.{sound}
-use Rattle.arbiter.specs.Carrying.{decides_by}
+use Rattle.arbiter.proofs.Carrying.{decides_by}
 
 module _ (t : Table) (e : Event) (v : Survey) (survey : Surveyed (bounds_of t) t.rows (job_of e) v) where
   module _ (ok : sound t ≡ true) where

@@ -1,7 +1,7 @@
 -- The promises determine what is handed back, and what is left in lent memory.
-use Rattle.arbiter.specs.Prelude.{Answer, Change, Count, Event, Late, List, Next, No, Outcome, Reported, Table, ◌≡◌, answer_by, ap, determined, refl, refusal_of_number_of, told_apart, ℕ}
+use Rattle.arbiter.specs.Prelude.{Answer, Change, Count, Late, List, Next, No, Outcome, Reported, Table, ◌≡◌, answer_by, ap, determined, refl, refusal_of_number_of, told_apart, ℕ}
 use Rattle.arbiter.specs.Answers.{Said, late_of, report_of, said_of, saysDone, saysGranted, saysToken, saysWait, says_woke}
-use Rattle.arbiter.specs.Promises.{Answered, AnsweredInto, ReportAnswered, Started, OverdueAnswered}
+use Rattle.arbiter.specs.Promises.{ReportAnswered, OverdueAnswered}
 use Rattle.decision.specs.Changes.{decided}
 use Rattle.decision.specs.declared.deciding.Decision.{Decision}
 use Rattle.decision.specs.declared.deciding.Decision.TheVariants as Decisions
@@ -45,18 +45,6 @@ same_next {r = r} {r' = r'} p p' q q' =
     λ i. record { answer = answer i; table = table i }
 
 -- ---- What the calls promise
-
-pub answered_determined : {n : ℕ} {t : Table} {e : Event} {r r' : Next} → Answered n t e r → Answered n t e r' → r ≡ r'
-answered_determined p q = same_next p.says q.says p.hands q.hands
-
-pub answered_into_determined :
-    {t : Table} {e : Event} {before after after' : List ℕ} {r r' : Next} → AnsweredInto t e before r after →
-    AnsweredInto t e before r' after' → (r ≡ r') × (after ≡ after')
-answered_into_determined p q = (answered_determined p.answered q.answered, determined p.lists q.lists)
-
-pub started_determined :
-    {T R tick limit : ℕ} {r r' : Next} → Started T R tick limit r → Started T R tick limit r' → r ≡ r'
-started_determined p q = same_next p.says q.says p.hands q.hands
 
 pub report_determined : (t : Table) (j : ℕ) (r r' : Reported) → ReportAnswered t j r → ReportAnswered t j r' → r ≡ r'
 report_determined t j r r' = told_apart report_of (answer_by Reporteds.No Reporteds.Is) report_said

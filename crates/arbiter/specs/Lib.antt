@@ -1,8 +1,6 @@
 -- What the calls mean: document 01, from "What a table holds" to "Refusal numbers".
-pub mod Answering
 pub mod Answers
 pub mod Bounded
-pub mod Carrying
 pub mod ChangeLaws
 pub mod Determined
 pub mod Effects

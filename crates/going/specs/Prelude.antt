@@ -26,10 +26,10 @@ pub use Rattle.soundness.specs.declared.Bounds.{Bounds}
 pub use Rattle.sweep.specs.Sweeping.{Acts, Onward, Settles}
 pub use Rattle.sweep.specs.declared.settling.Swept.{Swept}
 pub use Rattle.upkeep.specs.Upkeep.{Appended, Removed}
-pub use Rattle.arbiter.specs.Answering.{accepted_answers_into, refused_answers_into}
+pub use Rattle.arbiter.proofs.Answering.{accepted_answers_into, refused_answers_into}
 pub use Rattle.arbiter.specs.Answers.{said_of}
 pub use Rattle.decision.specs.Accepting.{saw_sound}
-pub use Rattle.arbiter.specs.Carrying.{changes_answer, long_cases, may_act, settling_does, writes_onward}
+pub use Rattle.arbiter.proofs.Carrying.{changes_answer, long_cases, may_act, settling_does, writes_onward}
 pub use Rattle.arbiter.specs.Bounded.{bounds_of}
 pub use Rattle.arbiter.specs.ChangeLaws.{Decides, change_on, sound_by_lem, sound_last}
 pub use Rattle.decision.specs.Changes.{refusal_cases}
@@ -53,5 +53,5 @@ pub use Rattle.lines.specs.WordLaws.{word_answer}
 pub use Rattle.record.specs.Format.{decode, size}
 pub use Rattle.record.specs.RoundTrip.{read_job}
 pub use Rattle.recording.specs.Recording.{place_after, readings}
-pub use Rattle.recording.specs.RecordingLaws.{drop_place, place_moves, readings_cons, readings_nil, take_place}
+pub use Rattle.recording.proofs.RecordingLaws.{drop_place, place_moves, readings_cons, readings_nil, take_place}
 pub use Rattle.going.specs.declared.Gone.{Gone}

@@ -17,10 +17,10 @@ pub use Rattle.pass.specs.declared.known.Survey.{Survey}
 pub use Rattle.decision.specs.Accepting.{saw_sound}
 pub use Rattle.decision.specs.Changes.{decided, refusal_cases}
 pub use Rattle.decision.specs.declared.deciding.Change.{Change}
-pub use Rattle.arbiter.specs.Answering.{accepted_answers_into, refused_answers, refused_answers_into}
+pub use Rattle.arbiter.proofs.Answering.{accepted_answers_into, refused_answers, refused_answers_into}
 pub use Rattle.arbiter.specs.Answers.{said_of}
 pub use Rattle.arbiter.specs.Bounded.{bounds_of}
-pub use Rattle.arbiter.specs.Carrying.{changes_answer, has_row, long_cases, may_act, quiet_cases, settling_does, short_cases, writes_onward}
+pub use Rattle.arbiter.proofs.Carrying.{changes_answer, has_row, long_cases, may_act, quiet_cases, settling_does, short_cases, writes_onward}
 pub use Rattle.arbiter.specs.ChangeLaws.{change_on, sound_by_lem}
 pub use Rattle.arbiter.specs.Meaning.{moved}
 pub use Rattle.arbiter.specs.Promises.{Answered}

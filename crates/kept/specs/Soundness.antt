@@ -1,4 +1,4 @@
--- Soundness is kept: every table that calls lead to from an accepted start is sound, so none is ever refused as 3.
+-- Soundness is kept: events leave a sound table sound, a fresh table is sound, and none that is sound is refused as 3.
 use Rattle.kept.specs.Prelude.{◌++◌, ◌<◌, Bool, Call, Case, List, NoSuchJob, NotLive, Refusal, Row, ShortList, Table, UnsoundTable, [], ◌^◌, about, acceptance_tells, accepted, answer, ap, applies, arith, refusals_of, calling, case, cases, cases_by, clear, clock_refusals, cond, course, false, fine, first, first_named, fresh_table, holds, idle, job_of, jobs, keep_unless, late, leaves, length, list_cases, ltb, next, no_table, not, not-false, outcome, overdue, ranges, refl, refusal_tells, refused, refusing, replicate, report, reported, row_in, row_of, run, said, set_of, sound, start_answer, start_cases, start_table, suc, sym, tick_of, true, true≢false, zero, ℕ, ◌∙◌, ◌∷◌, ◌≡◌}
 use Rattle.event.specs.declared.events.Event.{Event}
 use Rattle.arbiter.specs.Answers as Answers
@@ -65,17 +65,6 @@ module _ (T R limit : ℕ) (started : start_answer T R limit ≡ fine Answers.sa
   unfolding start_table
   start_fresh tick = leaves_new (start_cases T R limit) no_table (fresh_table T R tick limit) unrefused
 
--- so a sound one
-pub start_sound :
-    (T R tick limit : ℕ) → tick < 2 ^ 32 → start_answer T R limit ≡ fine Answers.saysDone → sound (start_table T R tick limit) ≡ true
-start_sound T R tick limit h e = rw (start_fresh T R limit e tick) (fresh_sound T R tick limit (start_ranges T R limit e) h)
-
--- every table that events lead to from an accepted start is sound
-pub run_sound :
-    (T R tick limit : ℕ) → tick < 2 ^ 32 → start_answer T R limit ≡ fine Answers.saysDone → (es : List Event) →
-    sound (run (start_table T R tick limit) es) ≡ true
-run_sound T R tick limit h ok es = events_sound (start_table T R tick limit) es (start_sound T R tick limit h ok)
-
 -- ---- Refusal 3
 
 -- what is refused as 3 was unsound
@@ -107,9 +96,3 @@ never_unsound t p =
           true≢false
           (sym (refused_unsound (length (late t tick)) true n t (calling 0 tick 0) (UnsoundTable ∷ clock_refusals) f) ∙ ap not p);
     }
-
--- so none that events lead to from an accepted start is
-pub run_never_unsound :
-    (T R tick limit : ℕ) → tick < 2 ^ 32 → start_answer T R limit ≡ fine Answers.saysDone → (es : List Event) →
-    NeverUnsound (run (start_table T R tick limit) es)
-run_never_unsound T R tick limit h ok es = never_unsound (run (start_table T R tick limit) es) (run_sound T R tick limit h ok es)

@@ -36,7 +36,7 @@ pub use Rattle.record.specs.Format.{decode, size}
 pub use Rattle.record.specs.FormatLaws.{decode_length}
 pub use Rattle.recording.specs.Recording.{readings}
 unfoldable pub use Rattle.recording.specs.Recording.{place_after}
-pub use Rattle.recording.specs.RecordingLaws.{drop_place, length_readings, place_moves, readings_append, readings_cons, readings_nil, readings_some, take_place}
+pub use Rattle.recording.proofs.RecordingLaws.{drop_place, length_readings, place_moves, readings_append, readings_cons, readings_nil, readings_some, take_place}
 pub use Rattle.stage.specs.Promises.{Begins, Judges, first_in, goes_on}
 pub use Rattle.stage.specs.Stages.{by_stage, ended, stage_after, stage_after_first}
 unfoldable pub use Rattle.stage.specs.Stages.{table_after, word}

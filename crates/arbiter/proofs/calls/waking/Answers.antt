@@ -2,8 +2,8 @@
 use Rattle.arbiter.specs.Prelude.{Acts, Bounds, Change, Onward, Settles, ◌∙◌, ◌≡◌, acceptance_tells, ap, arith, fine, job_of, outcome, refl, sound_by, subst, sym, true, ℕ}
 use Rattle.event.specs.declared.events.Parts.{Parts}
 use Rattle.rows.specs.Line.{row_of}
-use Rattle.arbiter.specs.Answering.{accepted_answers_into, refused_answers_into}
-use Rattle.arbiter.specs.Carrying.{has_row, long_cases, may_act, settling_does, writes_onward}
+use Rattle.arbiter.proofs.Answering.{accepted_answers_into, refused_answers_into}
+use Rattle.arbiter.proofs.Carrying.{has_row, long_cases, may_act, settling_does, writes_onward}
 use Rattle.arbiter.specs.ChangeLaws.{change_on, sound_by_lem}
 use Rattle.arbiter.specs.Refusals.{seen_in}
 use Rattle.arbiter.specs.Sound.{row_in}

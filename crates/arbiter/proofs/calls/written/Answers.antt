@@ -5,8 +5,8 @@ use Rattle.arbiter.specs.ChangeLaws.{change_on}
 use Rattle.decision.specs.Changes.{decided}
 use Rattle.arbiter.specs.Meaning.{moved}
 use Rattle.arbiter.specs.Refusals.{seen_in}
-use Rattle.arbiter.specs.Answering.{refused_answers}
-use Rattle.arbiter.specs.Carrying.{changes_answer, has_row, quiet_cases}
+use Rattle.arbiter.proofs.Answering.{refused_answers}
+use Rattle.arbiter.proofs.Carrying.{changes_answer, has_row, quiet_cases}
 use Rattle.arbiter.proofs.calls.written.Goals as goal
 
 pub returns-in-No : goal.returns-in-No

@@ -1,7 +1,7 @@
 -- A list that is too short is refused first; else what was found is carried out.
 use Rattle.arbiter.specs.Prelude.{Complete, refl}
-use Rattle.arbiter.specs.Answering.{refused_answers_into}
-use Rattle.arbiter.specs.Carrying.{short_cases}
+use Rattle.arbiter.proofs.Answering.{refused_answers_into}
+use Rattle.arbiter.proofs.Carrying.{short_cases}
 use Rattle.arbiter.specs.ChangeLaws.{change_on}
 use Rattle.arbiter.proofs.Surveys.{last_seen, line_seen, surveyed_by}
 use Rattle.arbiter.proofs.table.Table.complete.Goals as goal

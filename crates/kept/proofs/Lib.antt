@@ -1,0 +1,2 @@
+-- That tables from an accepted start are sound.
+pub mod Soundness
