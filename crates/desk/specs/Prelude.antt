@@ -1,8 +1,6 @@
 -- The names from outside that this crate's definitions and proofs use, passed on by one module.
-pub use Rattle.std.specs.Prelude.{◌≤◌, ℕ, not, List, [], ◌∷◌, ◌≡◌, refl, length}
-pub use Rattle.std.proofs.Common.{◌∙◌, ap, sym, zero-add, rules, le-ltb, lt-ltb}
-pub use denote.Enum.Declared.{tag_of}
-pub use types.Run.{OneOf, miss}
+pub use Rattle.std.specs.Prelude.{◌≤◌, ℕ, not, List, ◌≡◌, refl, length}
+pub use Rattle.std.proofs.Common.{◌∙◌, ap, sym, zero-add, le-ltb, lt-ltb}
 pub use Rattle.laws.specs.CaseLaws.{acceptance_tells, leaves_is, outcome_is, refusal_tells}
 pub use Rattle.laws.specs.Cases.{fine, keep_unless, refused, unless}
 pub use Rattle.laws.specs.Chains.{First, none, past, this}

@@ -13,77 +13,91 @@ use stream::Out;
 use words::{at_most, jobs, refused, what};
 
 // How far away a token is.
-fn away(out: Out, room: &mut [u8], completions: u64) -> Out
+fn away(rt: &(impl Print + Eprint), out: Out, room: &mut [u8], completions: u64) -> Out
     ensures { out.failures ≤ result.failures }
 {
-    let told = stream::word(out, room, b"waits for its token, ", completions);
+    let told = stream::word(rt, out, room, b"waits for its token, ", completions);
     if completions == 1 {
-        return stream::text(told, room, b" completion away");
+        return stream::text(rt, told, room, b" completion away");
     }
-    stream::text(told, room, b" completions away")
+    stream::text(rt, told, room, b" completions away")
 }
 
 // The jobs that are in the way. After an ask that waits the question is not refused.
-fn in_way(out: Out, room: &mut [u8], found: Found, list: &[u8]) -> Out
+fn in_way(rt: &(impl Print + Eprint), out: Out, room: &mut [u8], found: Found, list: &[u8]) -> Out
     ensures { out.failures ≤ result.failures }
 {
-    let told = stream::text(out, room, b"waits, in the way: ");
+    let told = stream::text(rt, out, room, b"waits, in the way: ");
     match found {
-        Found::No(refusal) => refused(told, room, refusal),
-        Found::Count(count) => jobs(told, room, list, count),
+        Found::No(refusal) => refused(rt, told, room, refusal),
+        Found::Count(count) => jobs(rt, told, room, list, count),
     }
 }
 
 // What an ask waits for.
-fn ask_waits(out: Out, room: &mut [u8], job: u32, after: Table) -> Out
+fn ask_waits(rt: &(impl Print + Eprint), out: Out, room: &mut [u8], job: u32, after: Table) -> Out
     ensures { out.failures ≤ result.failures }
 {
     let mut list = [0u8; JOBS];
     let found = hinderers(after, job, &mut list);
-    in_way(out, room, found, &list)
+    in_way(rt, out, room, found, &list)
 }
 
 // What an open or an ask waits for.
-fn waits(out: Out, room: &mut [u8], kind: Kind, job: u32, after: Table) -> Out
+fn waits(
+    rt: &(impl Print + Eprint),
+    out: Out,
+    room: &mut [u8],
+    kind: Kind,
+    job: u32,
+    after: Table,
+) -> Out
     ensures { out.failures ≤ result.failures }
 {
     match kind {
-        Kind::Ask => ask_waits(out, room, job, after),
-        _ => away(out, room, completions_away(after, job)),
+        Kind::Ask => ask_waits(rt, out, room, job, after),
+        _ => away(rt, out, room, completions_away(after, job)),
     }
 }
 
 // What a woken job got: its token if it waited for that before, else its set.
-fn gain(out: Out, room: &mut [u8], before: Table, job: u8) -> Out
+fn gain(rt: &(impl Print + Eprint), out: Out, room: &mut [u8], before: Table, job: u8) -> Out
     ensures { out.failures ≤ result.failures }
 {
-    let named = stream::number(out, room, job as u64);
+    let named = stream::number(rt, out, room, job as u64);
     if state_of(before, job as u32) == WAITS_FOR_TOKEN {
-        return stream::text(named, room, b" with its token");
+        return stream::text(rt, named, room, b" with its token");
     }
-    stream::text(named, room, b" with its set")
+    stream::text(rt, named, room, b" with its set")
 }
 
 // What stands before a woken job.
-fn lead(out: Out, room: &mut [u8], place: usize) -> Out
+fn lead(rt: &(impl Print + Eprint), out: Out, room: &mut [u8], place: usize) -> Out
     ensures { out.failures ≤ result.failures }
 {
     if place == 0 {
-        return stream::text(out, room, b", wakes ");
+        return stream::text(rt, out, room, b", wakes ");
     }
-    stream::text(out, room, b", ")
+    stream::text(rt, out, room, b", ")
 }
 
 // The woken jobs, each with what it got.
-fn gains(out: Out, room: &mut [u8], before: Table, woken: &[u8], count: u32) -> Out
+fn gains(
+    rt: &(impl Print + Eprint),
+    out: Out,
+    room: &mut [u8],
+    before: Table,
+    woken: &[u8],
+    count: u32,
+) -> Out
     ensures { out.failures ≤ result.failures }
 {
     let end = at_most(count, woken.len());
     let mut told = out;
     let mut i = 0;
     while i < end {
-        told = lead(told, room, i);
-        told = gain(told, room, before, woken[i]);
+        told = lead(rt, told, room, i);
+        told = gain(rt, told, room, before, woken[i]);
         i += 1;
     }
     told
@@ -91,6 +105,7 @@ fn gains(out: Out, room: &mut [u8], before: Table, woken: &[u8], count: u32) -> 
 
 // What an event was answered.
 fn said(
+    rt: &(impl Print + Eprint),
     out: Out,
     room: &mut [u8],
     parts: Parts,
@@ -102,33 +117,34 @@ fn said(
     ensures { out.failures ≤ result.failures }
 {
     match answer {
-        Answer::No(refusal) => refused(out, room, refusal),
-        Answer::Token => stream::text(out, room, b"has its token"),
-        Answer::Granted => stream::text(out, room, b"granted"),
+        Answer::No(refusal) => refused(rt, out, room, refusal),
+        Answer::Token => stream::text(rt, out, room, b"has its token"),
+        Answer::Granted => stream::text(rt, out, room, b"granted"),
         Answer::Wait => {
             let kind = parts.kind;
-            waits(out, room, kind, parts.job, after)
+            waits(rt, out, room, kind, parts.job, after)
         }
-        Answer::Done => stream::text(out, room, b"done"),
+        Answer::Done => stream::text(rt, out, room, b"done"),
         Answer::Woke(count) => {
-            let done = stream::text(out, room, b"done");
-            gains(done, room, before, woken, count)
+            let done = stream::text(rt, out, room, b"done");
+            gains(rt, done, room, before, woken, count)
         }
     }
 }
 
 // What a record that is no event was answered: an accepted start, or a refusal.
-fn began(out: Out, room: &mut [u8], answer: Answer) -> Out
+fn began(rt: &(impl Print + Eprint), out: Out, room: &mut [u8], answer: Answer) -> Out
     ensures { out.failures ≤ result.failures }
 {
     match answer {
-        Answer::No(refusal) => refused(out, room, refusal),
-        _ => stream::text(out, room, b"started"),
+        Answer::No(refusal) => refused(rt, out, room, refusal),
+        _ => stream::text(rt, out, room, b"started"),
     }
 }
 
 // The answer to a record.
 fn told(
+    rt: &(impl Print + Eprint),
     out: Out,
     room: &mut [u8],
     reading: Reading,
@@ -140,16 +156,26 @@ fn told(
     ensures { out.failures ≤ result.failures }
 {
     match reading {
-        Reading::No(_) => began(out, room, answer),
+        Reading::No(_) => began(rt, out, room, answer),
         Reading::Got(entry) => match entry {
-            Entry::Start(_) => began(out, room, answer),
-            Entry::Event(event) => said(out, room, parts_of(event), before, answer, after, woken),
+            Entry::Start(_) => began(rt, out, room, answer),
+            Entry::Event(event) => said(
+                rt,
+                out,
+                room,
+                parts_of(event),
+                before,
+                answer,
+                after,
+                woken,
+            ),
         },
     }
 }
 
 // The line of a record: its number, its tick and the true time after it, what it asks for, and the answer.
 pub fn line(
+    rt: &(impl Print + Eprint),
     out: Out,
     room: &mut [u8],
     number: u64,
@@ -161,18 +187,18 @@ pub fn line(
 ) -> Out
     ensures { out.failures ≤ result.failures }
 {
-    let numbered = stream::number(out, room, number);
-    let asked = what(numbered, room, reading, after.time);
-    let parted = stream::text(asked, room, b": ");
-    let answered = told(parted, room, reading, before, answer, after, woken);
-    stream::text(answered, room, b"\n")
+    let numbered = stream::number(rt, out, room, number);
+    let asked = what(rt, numbered, room, reading, after.time);
+    let parted = stream::text(rt, asked, room, b": ");
+    let answered = told(rt, parted, room, reading, before, answer, after, woken);
+    stream::text(rt, answered, room, b"\n")
 }
 
 // The last line: live requests and tokens in use.
-pub fn end(out: Out, room: &mut [u8], live: u64, tokens: u64) -> Out
+pub fn end(rt: &(impl Print + Eprint), out: Out, room: &mut [u8], live: u64, tokens: u64) -> Out
     ensures { out.failures ≤ result.failures }
 {
-    let lived = stream::word(out, room, b"end: live ", live);
-    let used = stream::word(lived, room, b", tokens in use ", tokens);
-    stream::text(used, room, b"\n")
+    let lived = stream::word(rt, out, room, b"end: live ", live);
+    let used = stream::word(rt, lived, room, b", tokens in use ", tokens);
+    stream::text(rt, used, room, b"\n")
 }

@@ -1,4 +1,2 @@
 -- Laws that only the proofs of functions use.
-pub mod Element
 pub mod Ranges
-pub mod Walking

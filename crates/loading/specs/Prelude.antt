@@ -1,7 +1,7 @@
 -- The names from outside that this crate's definitions and proofs use, passed on by one module.
 pub use Rattle.std.specs.Prelude.{◌*◌, ◌+◌, ◌-◌, ◌<◌, ◌≤◌, ℕ, Bool, ◌&&◌, ◌||◌, false, not, true, List, [], ◌++◌, ◌∷◌, map, ◌≡◌, refl, drop, length, replicate, set, take, eqb, ltb}
 pub use Rattle.std.proofs.Math.Bool.{and_assoc, and-true, or_assoc, or-false}
-pub use Rattle.std.proofs.Common.{◌∙◌, ap, subst, sym, arith, rules, eq-eqb, le-ltb, lt-ltb, ne_eqb, length-drop, length-set, drop-drop, take_all, take_at}
+pub use Rattle.std.proofs.Common.{◌∙◌, ap, subst, sym, arith, eq-eqb, le-ltb, lt-ltb, ne_eqb, length-drop, length-set, drop-drop, take_all, take_at}
 pub use Rattle.std.proofs.Math.Nat.{sub-zero}
 pub use Rattle.std.proofs.lemmas.Bool.{not-false}
 pub use Rattle.std.proofs.lemmas.List.{length-replicate}

@@ -1,6 +1,6 @@
 -- The names from outside that this crate's definitions and proofs use, passed on by one module.
 pub use Rattle.std.specs.Prelude.{◌-◌, ◌<◌, ◌≤◌, ℕ, not, List, ◌≡◌, refl, get_or, length}
-pub use Rattle.std.proofs.Common.{◌∙◌, ap, subst, sym, zero-add, arith, rules, le-ltb, lt-ltb}
+pub use Rattle.std.proofs.Common.{◌∙◌, ap, subst, sym, zero-add, arith, le-ltb, lt-ltb}
 pub use Rattle.std.proofs.lemmas.Bool.{not-false}
 pub use Rattle.laws.specs.CaseLaws.{leaves_is, outcome_is}
 pub use Rattle.laws.specs.Cases.{fine, keep_unless, unless}

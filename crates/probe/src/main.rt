@@ -24,34 +24,47 @@ fn stop(out: Out) -> After
 }
 
 // Says that the input is cut, and no further case.
-fn cut(out: Out, room: &mut Room) -> After
+fn cut(rt: &(impl Print + Eprint), out: Out, room: &mut Room) -> After
     ensures { out.failures ≤ result.out.failures }
 {
-    stop(shown::word(out, room, CUT))
+    stop(shown::word(rt, out, room, CUT))
 }
 
 // Makes a call and prints what it leaves. The longest list that a case can lend is one shorter than the array.
-fn make(out: Out, room: &mut Room, case: Case, call: Call, table: Table) -> Out
+fn make(
+    rt: &(impl Print + Eprint),
+    out: Out,
+    room: &mut Room,
+    case: Case,
+    call: Call,
+    table: Table,
+) -> Out
     ensures { out.failures ≤ result.failures }
 {
-    let mut space = io::large_buffer();
+    let mut space = [0u8; 65536];
     let length = case.length as usize;
     let list = &mut space[..length];
     cases::lend(list);
     let left = called::left_by(case, call, table, list);
-    shown::show(out, room, left, list)
+    shown::show(rt, out, room, left, list)
 }
 
 // Makes the call of a whole case and prints its number and what it left.
-fn whole(out: Out, room: &mut Room, number: u64, bytes: &[u8; CASE]) -> After
+fn whole(
+    rt: &(impl Print + Eprint),
+    out: Out,
+    room: &mut Room,
+    number: u64,
+    bytes: &[u8; CASE],
+) -> After
     ensures { out.failures ≤ result.out.failures }
 {
     let case = cases::case_of(bytes);
     let Asked::For(call) = cases::call_numbered(case.call) else {
-        return cut(out, room);
+        return cut(rt, out, room);
     };
-    let numbered = stream::number(out, room, number);
-    let told = make(numbered, room, case, call, cases::table_of(bytes));
+    let numbered = stream::number(rt, out, room, number);
+    let told = make(rt, numbered, room, case, call, cases::table_of(bytes));
     After {
         out: told,
         more: told.failures == 0,
@@ -59,35 +72,35 @@ fn whole(out: Out, room: &mut Room, number: u64, bytes: &[u8; CASE]) -> After
 }
 
 // Reads a case and prints what it gives.
-fn turn(out: Out, room: &mut Room, number: u64) -> After
+fn turn(rt: &(impl Input + Print + Eprint), out: Out, room: &mut Room, number: u64) -> After
     ensures { out.failures ≤ result.out.failures }
 {
     let mut bytes = [0u8; CASE];
-    let piece = stream::fill(&mut bytes);
+    let piece = stream::fill(rt, &mut bytes);
     if piece.failed || piece.count == 0 {
         return stop(out);
     }
     if piece.count < CASE {
-        return cut(out, room);
+        return cut(rt, out, room);
     }
-    whole(out, room, number, &bytes)
+    whole(rt, out, room, number, &bytes)
 }
 
 // Goes through all of standard input. The cases are numbered from 1; no input has so many that the numbers run out.
-fn run(room: &mut Room) {
+fn run(rt: &(impl Input + Print + Eprint), room: &mut Room) {
     let mut out = Out { at: 0, failures: 0 };
     let mut more = true;
     let mut number = 0;
     while more && number < u64::MAX {
         number += 1;
-        let after = turn(out, room, number);
+        let after = turn(rt, out, room, number);
         out = after.out;
         more = after.more;
     }
-    stream::flush(out, room);
+    stream::flush(rt, out, room);
 }
 
-fn main() {
-    let mut room = io::large_buffer();
-    run(&mut room);
+fn main(rt: HostRuntime) {
+    let mut room = [0u8; 65536];
+    run(&rt, &mut room);
 }

@@ -1,9 +1,2 @@
--- Demand 3 of document 00: its statement, its proof, and two histories in figures.
-pub mod Example
-pub mod GivenUp
-pub mod Holds
-pub mod Others
-pub mod Partings
-pub mod Sets
+-- Demand 3 of document 00: its statement.
 pub mod Statement
-pub mod Token

@@ -1,9 +1,2 @@
--- What holds along whole histories of events.
-pub mod Count
-pub mod Events
-pub mod Partings
-pub mod Row
-pub mod Time
-pub mod Turn
-pub mod Woken
+-- What is said of whole histories of events.
 pub mod Words

@@ -1,4 +1,5 @@
--- What whole histories show, what later requests cannot change, and the sessions of document 01.
+-- What the theorems say: the words of whole histories, demand 3, what later requests cannot change, and the sessions of
+-- document 01.
 pub mod Demand
 pub mod History
 pub mod Prelude

@@ -46,21 +46,3 @@ Claim P12 =
     ≡ fine saysWait
 Claim leap = forward 4294967282 3599987 ≡ refused 23
 Claim last-leap = (forward (highest - 5) 3599995 ≡ refused 23) × (forward (highest - 5) 3599994 ≡ refused 6)
-
--- every session turns out as the documents say
-pub worked : (session : Session) → Claim session
-unfolding start_table course next answer report overdue late_in forward outcome leaves first sound distinct ahead in_way count all meets meet union without inside below settled woken keep lined place under
-worked P1 = Record.recorded
-worked P2 = refl
-worked P3 = refl
-worked P4 = refl
-worked P5 = refl
-worked P6 = (refl, refl)
-worked P7 = (refl, refl)
-worked P8 = refl
-worked P9 = refl
-worked P10 = refl
-worked P11 = refl
-worked P12 = refl
-worked leap = refl
-worked last-leap = (refl, refl)

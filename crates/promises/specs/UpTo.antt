@@ -1,8 +1,2 @@
--- What requests up to a turn live through depends on the rows up to that turn alone.
-pub mod Events
-pub mod Example
-pub mod Holds
-pub mod Line
-pub mod Rows
-pub mod Same
+-- What it is that depends on the rows up to a turn alone.
 pub mod Statement

@@ -5,13 +5,13 @@ use blocks::Lines;
 use listing::Replay;
 
 // Takes all blocks, and ends the listing unless a read or a write failed.
-fn main() {
-    let mut room = io::large_buffer();
+fn main(rt: HostRuntime) {
+    let mut room = [0u8; 65536];
     let fresh = Replay::new();
-    let progress = blocks::take_all(fresh, Lines::Print, &mut room);
+    let progress = blocks::take_all(&rt, fresh, Lines::Print, &mut room);
     if !progress.failed {
         let replay = progress.replay;
         let took = replay.finish(&mut room);
-        blocks::pass_on(took, Lines::Print, &room);
+        blocks::pass_on(&rt, took, Lines::Print, &room);
     }
 }

@@ -1,7 +1,7 @@
 -- The names from outside that this crate's definitions and proofs use, passed on by one module.
 pub use Rattle.std.specs.Prelude.{◌*◌, ◌+◌, ◌-◌, ◌<◌, ◌≤◌, suc, ℕ, not, true, List, [], ◌++◌, ◌∷◌, ◌≡◌, refl, drop, get_or, length}
-pub use Rattle.std.proofs.Common.{◌∙◌, ap, sym, zero-add, add-one, arith, rules, le-ltb, lt-ltb, drop_of_length-le, length-drop, drop-cons, length-take-le}
-pub use Rattle.std.proofs.lemmas.Bool.{not-false, not-true}
+pub use Rattle.std.proofs.Common.{◌∙◌, ap, sym, zero-add, add-one, arith, le-ltb, lt-ltb, drop_of_length-le, length-drop, drop-cons, length-take-le}
+pub use Rattle.std.proofs.lemmas.Bool.{not-false}
 pub use Rattle.laws.specs.CaseLaws.{leaves_is, outcome_is}
 pub use Rattle.laws.specs.Cases.{fine, keep_unless, unless}
 pub use Rattle.laws.specs.Chains.{First, past, this}

@@ -28,45 +28,45 @@ fn length(word: Word) -> usize
 }
 
 // A word.
-pub fn word(out: Out, room: &mut Room, word: Word) -> Out
+pub fn word(rt: &(impl Print + Eprint), out: Out, room: &mut Room, word: Word) -> Out
     ensures { out.failures ≤ result.failures }
 {
     let end = length(word);
-    stream::text(out, room, &word[..end])
+    stream::text(rt, out, room, &word[..end])
 }
 
 // A number after its mark.
-fn marked(out: Out, room: &mut Room, mark: u8, n: u64) -> Out
+fn marked(rt: &(impl Print + Eprint), out: Out, room: &mut Room, mark: u8, n: u64) -> Out
     ensures { out.failures ≤ result.failures }
 {
     let marks = [mark];
-    stream::word(out, room, &marks, n)
+    stream::word(rt, out, room, &marks, n)
 }
 
 // A line without its end: the word, and the numbers that have marks.
-pub fn line(out: Out, room: &mut Room, line: Line) -> Out
+pub fn line(rt: &(impl Print + Eprint), out: Out, room: &mut Room, line: Line) -> Out
     ensures { out.failures ≤ result.failures }
 {
     let first = line.word;
     let marks = line.marks;
     let numbers = line.numbers;
-    let mut told = word(out, room, first);
+    let mut told = word(rt, out, room, first);
     let mut i = 0;
     while i < NUMBERS {
         let mark = marks[i];
         if mark == 0 {
             return told;
         }
-        told = marked(told, room, mark, numbers[i]);
+        told = marked(rt, told, room, mark, numbers[i]);
         i += 1;
     }
     told
 }
 
 // The line of a lent list, without its end.
-pub fn list(out: Out, room: &mut Room, list: &[u8]) -> Out
+pub fn list(rt: &(impl Print + Eprint), out: Out, room: &mut Room, list: &[u8]) -> Out
     ensures { out.failures ≤ result.failures }
 {
-    let named = word(out, room, LIST);
-    stream::bytes(named, room, list)
+    let named = word(rt, out, room, LIST);
+    stream::bytes(rt, named, room, list)
 }

@@ -38,24 +38,24 @@ fn numbers(job: u64, row: Row) -> Line {
 }
 
 // A row, unless it is all 0.
-fn row(out: Out, room: &mut Room, job: u64, row: Row) -> Out
+fn row(rt: &(impl Print + Eprint), out: Out, room: &mut Room, job: u64, row: Row) -> Out
     ensures { out.failures ≤ result.failures }
 {
     if blank(row) {
         return out;
     }
-    print::line(out, room, numbers(job, row))
+    print::line(rt, out, room, numbers(job, row))
 }
 
 // The rows that are not all 0.
-fn rows(out: Out, room: &mut Room, rows: [Row; JOBS]) -> Out
+fn rows(rt: &(impl Print + Eprint), out: Out, room: &mut Room, rows: [Row; JOBS]) -> Out
     ensures { out.failures ≤ result.failures }
 {
     let mut told = out;
     let mut job = 0;
     while job < JOBS {
         let r = rows[job];
-        told = row(told, room, job as u64, r);
+        told = row(rt, told, room, job as u64, r);
         job += 1;
     }
     told
@@ -79,35 +79,42 @@ fn head(table: Table) -> Line {
 }
 
 // The line of a table.
-fn table(out: Out, room: &mut Room, table: Table) -> Out
+fn table(rt: &(impl Print + Eprint), out: Out, room: &mut Room, table: Table) -> Out
     ensures { out.failures ≤ result.failures }
 {
     let all = table.rows;
-    let headed = print::line(out, room, head(table));
-    rows(headed, room, all)
+    let headed = print::line(rt, out, room, head(table));
+    rows(rt, headed, room, all)
 }
 
 // A part of what a call leaves.
-fn show_part(out: Out, room: &mut Room, part: Part, list: &[u8], after: Table) -> Out
+fn show_part(
+    rt: &(impl Print + Eprint),
+    out: Out,
+    room: &mut Room,
+    part: Part,
+    list: &[u8],
+    after: Table,
+) -> Out
     ensures { out.failures ≤ result.failures }
 {
     match part {
         Part::Nothing => out,
-        Part::List => print::list(out, room, list),
-        Part::Table => table(out, room, after),
+        Part::List => print::list(rt, out, room, list),
+        Part::Table => table(rt, out, room, after),
     }
 }
 
 // All that a call leaves, after the number of its case.
-pub fn show(out: Out, room: &mut Room, left: Left, list: &[u8]) -> Out
+pub fn show(rt: &(impl Print + Eprint), out: Out, room: &mut Room, left: Left, list: &[u8]) -> Out
     ensures { out.failures ≤ result.failures }
 {
     let said = left.line;
     let then = left.then;
     let last = left.last;
     let after = left.table;
-    let told = print::line(out, room, said);
-    let more = show_part(told, room, then, list, after);
-    let all = show_part(more, room, last, list, after);
-    print::word(all, room, END)
+    let told = print::line(rt, out, room, said);
+    let more = show_part(rt, told, room, then, list, after);
+    let all = show_part(rt, more, room, last, list, after);
+    print::word(rt, all, room, END)
 }

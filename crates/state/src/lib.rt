@@ -16,45 +16,45 @@ use words::jobs;
 const WRAP: u64 = 4_294_967_296;
 
 // A test after its name.
-fn answered(out: Out, room: &mut [u8], name: &[u8], yes: bool) -> Out
+fn answered(rt: &(impl Print + Eprint), out: Out, room: &mut [u8], name: &[u8], yes: bool) -> Out
     ensures { out.failures ≤ result.failures }
 {
-    let named = stream::text(out, room, name);
+    let named = stream::text(rt, out, room, name);
     if yes {
-        return stream::text(named, room, b" yes");
+        return stream::text(rt, named, room, b" yes");
     }
-    stream::text(named, room, b" no")
+    stream::text(rt, named, room, b" no")
 }
 
 // How many are ahead, and how many of them in the way.
-fn counted(out: Out, room: &mut [u8], ahead: u32, in_way: u32) -> Out
+fn counted(rt: &(impl Print + Eprint), out: Out, room: &mut [u8], ahead: u32, in_way: u32) -> Out
     ensures { out.failures ≤ result.failures }
 {
-    let first = stream::word(out, room, b", ahead ", ahead as u64);
-    stream::word(first, room, b", in the way ", in_way as u64)
+    let first = stream::word(rt, out, room, b", ahead ", ahead as u64);
+    stream::word(rt, first, room, b", in the way ", in_way as u64)
 }
 
 // What is reported of a job after its number.
-fn reported(out: Out, room: &mut [u8], report: Report) -> Out
+fn reported(rt: &(impl Print + Eprint), out: Out, room: &mut [u8], report: Report) -> Out
     ensures { out.failures ≤ result.failures }
 {
     let turn = report.turn;
-    let placed = stream::word(out, room, b": turn ", turn.0);
-    let token = answered(placed, room, b", token", report.token);
-    let waits = answered(token, room, b", waiting", report.waiting);
-    counted(waits, room, report.ahead, report.in_way)
+    let placed = stream::word(rt, out, room, b": turn ", turn.0);
+    let token = answered(rt, placed, room, b", token", report.token);
+    let waits = answered(rt, token, room, b", waiting", report.waiting);
+    counted(rt, waits, room, report.ahead, report.in_way)
 }
 
 // The line of a live job.
-fn job_line(out: Out, room: &mut [u8], table: Table, job: u8) -> Out
+fn job_line(rt: &(impl Print + Eprint), out: Out, room: &mut [u8], table: Table, job: u8) -> Out
     ensures { out.failures ≤ result.failures }
 {
     match report(table, job as u32) {
         Reported::No(_) => out,
         Reported::Is(known) => {
-            let named = stream::word(out, room, b"job ", job as u64);
-            let told = reported(named, room, known);
-            stream::text(told, room, b"\n")
+            let named = stream::word(rt, out, room, b"job ", job as u64);
+            let told = reported(rt, named, room, known);
+            stream::text(rt, told, room, b"\n")
         }
     }
 }
@@ -70,7 +70,7 @@ fn within(len: usize) -> usize
 }
 
 // The lines of the live jobs, in order of turn.
-fn job_lines(out: Out, room: &mut [u8], table: Table) -> Out
+fn job_lines(rt: &(impl Print + Eprint), out: Out, room: &mut [u8], table: Table) -> Out
     ensures { out.failures ≤ result.failures }
 {
     let rows = table.rows;
@@ -81,82 +81,88 @@ fn job_lines(out: Out, room: &mut [u8], table: Table) -> Out
     let mut told = out;
     let mut p = 0;
     while p < end {
-        told = job_line(told, room, table, jobs[p]);
+        told = job_line(rt, told, room, table, jobs[p]);
         p += 1;
     }
     told
 }
 
 // Who is overdue, of so many in a list.
-fn late(out: Out, room: &mut [u8], found: Late, list: &[u8]) -> Out
+fn late(rt: &(impl Print + Eprint), out: Out, room: &mut [u8], found: Late, list: &[u8]) -> Out
     ensures { out.failures ≤ result.failures }
 {
     match found {
         Late::No(_) => out,
         Late::Count(count) => {
             if count == 0 {
-                return stream::text(out, room, b"nobody");
+                return stream::text(rt, out, room, b"nobody");
             }
-            jobs(out, room, list, count)
+            jobs(rt, out, room, list, count)
         }
     }
 }
 
 // Who is overdue at the time of the table itself.
-fn late_line(out: Out, room: &mut [u8], table: Table) -> Out
+fn late_line(rt: &(impl Print + Eprint), out: Out, room: &mut [u8], table: Table) -> Out
     ensures { out.failures ≤ result.failures }
 {
     let mut list = [0u8; JOBS];
     let found = overdue(table, Tick((table.time % WRAP) as u32), &mut list);
-    let named = stream::text(out, room, b"overdue: ");
-    let told = late(named, room, found, &list);
-    stream::text(told, room, b"\n")
+    let named = stream::text(rt, out, room, b"overdue: ");
+    let told = late(rt, named, room, found, &list);
+    stream::text(rt, told, room, b"\n")
 }
 
 // The lines of the table itself.
-fn page_of(out: Out, room: &mut [u8], table: Table) -> Out
+fn page_of(rt: &(impl Print + Eprint), out: Out, room: &mut [u8], table: Table) -> Out
     ensures { out.failures ≤ result.failures }
 {
     let mut page = [0u8; PAGE];
     let shown = put_page(table, &mut page);
     match shown {
         Shown::No(_) => out,
-        Shown::Length(count) => part(out, room, &page, count),
+        Shown::Length(count) => part(rt, out, room, &page, count),
     }
 }
 
 // The first bytes of a text.
-fn part(out: Out, room: &mut [u8], text: &[u8], count: usize) -> Out
+fn part(rt: &(impl Print + Eprint), out: Out, room: &mut [u8], text: &[u8], count: usize) -> Out
     ensures { out.failures ≤ result.failures }
 {
     if text.len() < count {
         return out;
     }
-    stream::text(out, room, &text[..count])
+    stream::text(rt, out, room, &text[..count])
 }
 
 // After which record, and its time.
-fn place(out: Out, room: &mut [u8], number: u64, time: u64) -> Out
+fn place(rt: &(impl Print + Eprint), out: Out, room: &mut [u8], number: u64, time: u64) -> Out
     ensures { out.failures ≤ result.failures }
 {
-    let numbered = stream::word(out, room, b"after record ", number);
-    let timed = stream::word(numbered, room, b": time ", time);
-    stream::text(timed, room, b"\n")
+    let numbered = stream::word(rt, out, room, b"after record ", number);
+    let timed = stream::word(rt, numbered, room, b": time ", time);
+    stream::text(rt, timed, room, b"\n")
 }
 
 // The table after so many records: its lines, what is reported of each live job, and who is overdue.
-pub fn print(out: Out, room: &mut [u8], number: u64, table: Table) -> Out
+pub fn print(
+    rt: &(impl Print + Eprint),
+    out: Out,
+    room: &mut [u8],
+    number: u64,
+    table: Table,
+) -> Out
     ensures { out.failures ≤ result.failures }
 {
-    let placed = place(out, room, number, table.time);
-    let shown = page_of(placed, room, table);
-    let told = job_lines(shown, room, table);
-    late_line(told, room, table)
+    let placed = place(rt, out, room, number, table.time);
+    let shown = page_of(rt, placed, room, table);
+    let told = job_lines(rt, shown, room, table);
+    late_line(rt, told, room, table)
 }
 
 // There is no table, since the first record is no accepted start.
-pub fn print_none(out: Out, room: &mut [u8]) -> Out
+pub fn print_none(rt: &(impl Print + Eprint), out: Out, room: &mut [u8]) -> Out
     ensures { out.failures ≤ result.failures }
 {
-    stream::text(out, room, b"after record 1: no table\n")
+    stream::text(rt, out, room, b"after record 1: no table\n")
 }

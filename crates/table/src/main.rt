@@ -9,12 +9,12 @@ use blocks::Lines;
 use decision::Answer;
 use desk::put_refusal;
 use event::Refusal;
-use libc::STDERR_FILENO;
 use listing::Replay;
 use page::{PAGE, Shown};
 use record::SIZE;
 use saving::Saved;
 use stage::{Stage, begin};
+use std::env::Env;
 use stream::Out;
 
 // Whether two words are the same.
@@ -35,19 +35,19 @@ fn same(word: &[u8], other: &[u8]) -> bool
 }
 
 // Writes the first bytes of a room to standard output.
-fn print(room: &[u8], count: usize) {
+fn print(rt: &(impl Print + Eprint), room: &[u8], count: usize) {
     let out = Out {
         at: count,
         failures: 0,
     };
-    stream::flush(out, room);
+    stream::flush(rt, out, room);
 }
 
 // Prints what a service file says. A file that is longer than what is read here is refused just as its beginning is: no head
 // counts that many rows. The room is never too short.
-fn show() {
-    let mut file = io::large_buffer();
-    let piece = stream::fill(&mut file);
+fn show(rt: &(impl Input + Print + Eprint)) {
+    let mut file = [0u8; 65536];
+    let piece = stream::fill(rt, &mut file);
     if piece.failed {
         return;
     }
@@ -55,27 +55,27 @@ fn show() {
     let shown = desk::show(&file[..piece.count], &mut room);
     match shown {
         Shown::No(_) => {}
-        Shown::Length(count) => print(&room, count),
+        Shown::Length(count) => print(rt, &room, count),
     }
 }
 
 // Says on standard error why the first record is no accepted start.
-fn refuse(refusal: Refusal) {
+fn refuse(errors: &impl Print, refusal: Refusal) {
     let mut room = [0u8; 64];
     let end = put_refusal(b"record 1: no", refusal, &mut room);
-    io::write_all(STDERR_FILENO, &room[..end]);
+    let _ = errors.write_all(&room[..end]);
 }
 
 // Writes the service file of the table that the records after an accepted start lead to, unless one was not read. That
 // table is sound and the room is never too short, so saving refuses nothing.
-fn save_from(start: Table) {
+fn save_from(rt: &(impl Input + Print + Eprint), start: Table) {
     let replay = Replay {
         stage: Stage::Going,
         table: start,
         number: 1,
     };
-    let mut room = io::large_buffer();
-    let progress = blocks::take_all(replay, Lines::Drop, &mut room);
+    let mut room = [0u8; 65536];
+    let progress = blocks::take_all(rt, replay, Lines::Drop, &mut room);
     if progress.failed {
         return;
     }
@@ -84,14 +84,14 @@ fn save_from(start: Table) {
     let saved = saving::save(table, &mut room);
     match saved {
         Saved::No(_) => {}
-        Saved::Length(count) => print(&room, count as usize),
+        Saved::Length(count) => print(rt, &room, count as usize),
     }
 }
 
 // Takes the first record of a recording and, if it is an accepted start, the others.
-fn save() {
+fn save(rt: &HostRuntime) {
     let mut bytes = [0u8; SIZE];
-    let piece = stream::fill(&mut bytes);
+    let piece = stream::fill(rt, &mut bytes);
     if piece.failed {
         return;
     }
@@ -99,25 +99,22 @@ fn save() {
     let next = begin(fresh.table, record::read(&bytes[..piece.count]));
     let answer = next.answer;
     match answer {
-        Answer::No(refusal) => refuse(refusal),
+        Answer::No(refusal) => refuse(&rt.stderr(), refusal),
         _ => {
             let table = next.table;
-            save_from(table);
+            save_from(rt, table);
         }
     }
 }
 
-fn main() {
+fn main(rt: HostRuntime) {
     let mut word = [0u8; 4];
-    let count = os::arg(1, &mut word);
+    let count = rt.arg(1, &mut word).unwrap_or(0);
     if same(&word[..count], b"show") {
-        show();
+        show(&rt);
     } else if same(&word[..count], b"save") {
-        save();
+        save(&rt);
     } else {
-        io::write_all(
-            STDERR_FILENO,
-            b"usage: table show <FILE, or table save <RECORDING\n",
-        );
+        let _ = rt.eprintln("usage: table show <FILE, or table save <RECORDING");
     }
 }

@@ -44,84 +44,138 @@ pub fn refusals_after(answer: Answer, refusals: u64) -> u64 {
 }
 
 // The time, if it is not that of the record before.
-fn stamp(out: Out, room: &mut [u8], before: u64, after: u64) -> Out
+fn stamp(rt: &(impl Print + Eprint), out: Out, room: &mut [u8], before: u64, after: u64) -> Out
     ensures { out.failures ≤ result.failures }
 {
     if before == after {
         return out;
     }
-    let timed = stream::word(out, room, b"#", after);
-    stream::text(timed, room, b"\n")
+    let timed = stream::word(rt, out, room, b"#", after);
+    stream::text(rt, timed, room, b"\n")
 }
 
 // A value of the drive, if it changed.
-fn changed(out: Out, room: &mut [u8], was: u64, is: u64, id: u8) -> Out
+fn changed(rt: &(impl Print + Eprint), out: Out, room: &mut [u8], was: u64, is: u64, id: u8) -> Out
     ensures { out.failures ≤ result.failures }
 {
     if was == is {
         return out;
     }
-    value(out, room, is, id)
+    value(rt, out, room, is, id)
 }
 
 // A value of a job, if it changed.
-fn job_changed(out: Out, room: &mut [u8], was: u64, is: u64, id: u8, job: u32) -> Out
+fn job_changed(
+    rt: &(impl Print + Eprint),
+    out: Out,
+    room: &mut [u8],
+    was: u64,
+    is: u64,
+    id: u8,
+    job: u32,
+) -> Out
     ensures { out.failures ≤ result.failures }
 {
     if was == is {
         return out;
     }
-    job_value(out, room, is, id, job)
+    job_value(rt, out, room, is, id, job)
 }
 
 // A bit of a job, if it changed.
-fn bit_changed(out: Out, room: &mut [u8], was: u64, is: u64, id: u8, job: u32) -> Out
+fn bit_changed(
+    rt: &(impl Print + Eprint),
+    out: Out,
+    room: &mut [u8],
+    was: u64,
+    is: u64,
+    id: u8,
+    job: u32,
+) -> Out
     ensures { out.failures ≤ result.failures }
 {
     if was == is {
         return out;
     }
-    job_bit(out, room, is, id, job)
+    job_bit(rt, out, room, is, id, job)
 }
 
 // What changed of a job's state: as a number, then its two bits.
-fn state_changed(out: Out, room: &mut [u8], was: u64, is: u64, job: u32) -> Out
+fn state_changed(
+    rt: &(impl Print + Eprint),
+    out: Out,
+    room: &mut [u8],
+    was: u64,
+    is: u64,
+    job: u32,
+) -> Out
     ensures { out.failures ≤ result.failures }
 {
-    let whole = job_changed(out, room, was, is, b's', job);
-    let token = bit_changed(whole, room, was / 2, is / 2, b'k', job);
-    bit_changed(token, room, was % 2, is % 2, b'w', job)
+    let whole = job_changed(rt, out, room, was, is, b's', job);
+    let token = bit_changed(rt, whole, room, was / 2, is / 2, b'k', job);
+    bit_changed(rt, token, room, was % 2, is % 2, b'w', job)
 }
 
 // What changed of a job.
-fn job_changes(out: Out, room: &mut [u8], was: View, is: View, job: u32) -> Out
+fn job_changes(
+    rt: &(impl Print + Eprint),
+    out: Out,
+    room: &mut [u8],
+    was: View,
+    is: View,
+    job: u32,
+) -> Out
     ensures { out.failures ≤ result.failures }
 {
-    let state = state_changed(out, room, was.state, is.state, job);
-    let declared = job_changed(state, room, was.declared, is.declared, b'd', job);
-    let held = job_changed(declared, room, was.held, is.held, b'h', job);
-    job_changed(held, room, was.asked, is.asked, b'a', job)
+    let state = state_changed(rt, out, room, was.state, is.state, job);
+    let declared = job_changed(rt, state, room, was.declared, is.declared, b'd', job);
+    let held = job_changed(rt, declared, room, was.held, is.held, b'h', job);
+    job_changed(rt, held, room, was.asked, is.asked, b'a', job)
 }
 
 // What changed of a job that is shown.
-fn job_in(out: Out, room: &mut [u8], mask: &[u8], job: u32, before: Table, after: Table) -> Out
+fn job_in(
+    rt: &(impl Print + Eprint),
+    out: Out,
+    room: &mut [u8],
+    mask: &[u8],
+    job: u32,
+    before: Table,
+    after: Table,
+) -> Out
     ensures { out.failures ≤ result.failures }
 {
     if !shown(mask, job) {
         return out;
     }
-    job_changes(out, room, view_of(before, job), view_of(after, job), job)
+    job_changes(
+        rt,
+        out,
+        room,
+        view_of(before, job),
+        view_of(after, job),
+        job,
+    )
 }
 
 // What changed of a woken job.
-fn woken_job(out: Out, room: &mut [u8], mask: &[u8], job: u8, before: Table, after: Table) -> Out
+fn woken_job(
+    rt: &(impl Print + Eprint),
+    out: Out,
+    room: &mut [u8],
+    mask: &[u8],
+    job: u8,
+    before: Table,
+    after: Table,
+) -> Out
     ensures { out.failures ≤ result.failures }
 {
-    job_in(out, room, mask, job as u32, before, after)
+    job_in(rt, out, room, mask, job as u32, before, after)
 }
 
 // What changed of the woken jobs.
 fn woken_in(
+    rt: &(impl Print + Eprint),
     out: Out,
     room: &mut [u8],
     mask: &[u8],
@@ -136,7 +190,7 @@ fn woken_in(
     let mut told = out;
     let mut i = 0;
     while i < end {
-        told = woken_job(told, room, mask, woken[i], before, after);
+        told = woken_job(rt, told, room, mask, woken[i], before, after);
         i += 1;
     }
     told
@@ -144,6 +198,7 @@ fn woken_in(
 
 // What changed of the job that an event names, if it names one.
 fn actor_in(
+    rt: &(impl Print + Eprint),
     out: Out,
     room: &mut [u8],
     mask: &[u8],
@@ -158,11 +213,12 @@ fn actor_in(
     if !shape.job {
         return out;
     }
-    job_in(out, room, mask, parts.job, before, after)
+    job_in(rt, out, room, mask, parts.job, before, after)
 }
 
 // What an event changed of the jobs: of its own, then of those that it woke. A refused one changes nothing.
 fn jobs_in(
+    rt: &(impl Print + Eprint),
     out: Out,
     room: &mut [u8],
     mask: &[u8],
@@ -177,15 +233,16 @@ fn jobs_in(
     match answer {
         Answer::No(_) => out,
         Answer::Woke(count) => {
-            let own = actor_in(out, room, mask, parts, before, after);
-            woken_in(own, room, mask, woken, count, before, after)
+            let own = actor_in(rt, out, room, mask, parts, before, after);
+            woken_in(rt, own, room, mask, woken, count, before, after)
         }
-        _ => actor_in(out, room, mask, parts, before, after),
+        _ => actor_in(rt, out, room, mask, parts, before, after),
     }
 }
 
 // What a record changed of the jobs.
 fn record_in(
+    rt: &(impl Print + Eprint),
     out: Out,
     room: &mut [u8],
     mask: &[u8],
@@ -202,6 +259,7 @@ fn record_in(
         Reading::Got(entry) => match entry {
             Entry::Start(_) => out,
             Entry::Event(event) => jobs_in(
+                rt,
                 out,
                 room,
                 mask,
@@ -216,7 +274,15 @@ fn record_in(
 }
 
 // The number of a record, how many have its time, and what it changed in all.
-fn counts(out: Out, room: &mut [u8], number: u64, here: u64, before: Table, after: Table) -> Out
+fn counts(
+    rt: &(impl Print + Eprint),
+    out: Out,
+    room: &mut [u8],
+    number: u64,
+    here: u64,
+    before: Table,
+    after: Table,
+) -> Out
     ensures { out.failures ≤ result.failures }
 {
     let rows = before.rows;
@@ -225,14 +291,15 @@ fn counts(out: Out, room: &mut [u8], number: u64, here: u64, before: Table, afte
     let is = live_count(next);
     let used = tokens_in(before.tokens, was);
     let in_use = tokens_in(after.tokens, is);
-    let numbered = value(out, room, number, b'r');
-    let counted = value(numbered, room, here, b'n');
-    let lived = changed(counted, room, was as u64, is as u64, b'l');
-    changed(lived, room, used as u64, in_use as u64, b't')
+    let numbered = value(rt, out, room, number, b'r');
+    let counted = value(rt, numbered, room, here, b'n');
+    let lived = changed(rt, counted, room, was as u64, is as u64, b'l');
+    changed(rt, lived, room, used as u64, in_use as u64, b't')
 }
 
 // A record after the first.
 pub fn next(
+    rt: &(impl Print + Eprint),
     trace: Trace,
     room: &mut [u8],
     mask: &[u8],
@@ -248,10 +315,12 @@ pub fn next(
     let out = trace.out;
     let here = here_after(before.time, after.time, trace.here);
     let refusals = refusals_after(answer, trace.refusals);
-    let timed = stamp(out, room, before.time, after.time);
-    let counted = counts(timed, room, number, here, before, after);
-    let refused = changed(counted, room, trace.refusals, refusals, b'x');
-    let told = record_in(refused, room, mask, reading, before, answer, after, woken);
+    let timed = stamp(rt, out, room, before.time, after.time);
+    let counted = counts(rt, timed, room, number, here, before, after);
+    let refused = changed(rt, counted, room, trace.refusals, refusals, b'x');
+    let told = record_in(
+        rt, refused, room, mask, reading, before, answer, after, woken,
+    );
     Trace {
         out: told,
         here,
@@ -260,9 +329,9 @@ pub fn next(
 }
 
 // The end: one millisecond after the last record.
-pub fn end(out: Out, room: &mut [u8], time: u64) -> Out
+pub fn end(rt: &(impl Print + Eprint), out: Out, room: &mut [u8], time: u64) -> Out
     ensures { out.failures ≤ result.failures }
 {
-    let timed = stream::word(out, room, b"#", more(time));
-    stream::text(timed, room, b"\n")
+    let timed = stream::word(rt, out, room, b"#", more(time));
+    stream::text(rt, timed, room, b"\n")
 }

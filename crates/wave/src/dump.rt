@@ -63,7 +63,7 @@ fn digit(n: u64) -> u8
 }
 
 // A number in binary, without leading zeros.
-fn binary(out: Out, room: &mut [u8], n: u64) -> Out
+fn binary(rt: &(impl Print + Eprint), out: Out, room: &mut [u8], n: u64) -> Out
     ensures { out.failures ≤ result.failures }
 {
     let mut digits = [b'0'; DIGITS];
@@ -72,42 +72,56 @@ fn binary(out: Out, room: &mut [u8], n: u64) -> Out
     digits[at] = digit(rest);
     while 0 < at {
         if rest < 2 {
-            return stream::text(out, room, &digits[at..]);
+            return stream::text(rt, out, room, &digits[at..]);
         }
         rest = rest / 2;
         at -= 1;
         digits[at] = digit(rest);
     }
-    stream::text(out, room, &digits)
+    stream::text(rt, out, room, &digits)
 }
 
 // The value of a variable of the drive.
-pub fn value(out: Out, room: &mut [u8], n: u64, id: u8) -> Out
+pub fn value(rt: &(impl Print + Eprint), out: Out, room: &mut [u8], n: u64, id: u8) -> Out
     ensures { out.failures ≤ result.failures }
 {
-    let begun = stream::text(out, room, b"b");
-    let digits = binary(begun, room, n);
+    let begun = stream::text(rt, out, room, b"b");
+    let digits = binary(rt, begun, room, n);
     let end = [b' ', id, b'\n'];
-    stream::text(digits, room, &end)
+    stream::text(rt, digits, room, &end)
 }
 
 // The value of a variable of a job.
-pub fn job_value(out: Out, room: &mut [u8], n: u64, id: u8, job: u32) -> Out
+pub fn job_value(
+    rt: &(impl Print + Eprint),
+    out: Out,
+    room: &mut [u8],
+    n: u64,
+    id: u8,
+    job: u32,
+) -> Out
     ensures { out.failures ≤ result.failures }
 {
-    let begun = stream::text(out, room, b"b");
-    let digits = binary(begun, room, n);
+    let begun = stream::text(rt, out, room, b"b");
+    let digits = binary(rt, begun, room, n);
     let end = [b' ', id];
-    let named = stream::word(digits, room, &end, job as u64);
-    stream::text(named, room, b"\n")
+    let named = stream::word(rt, digits, room, &end, job as u64);
+    stream::text(rt, named, room, b"\n")
 }
 
 // The value of a variable of one bit.
-pub fn job_bit(out: Out, room: &mut [u8], bit: u64, id: u8, job: u32) -> Out
+pub fn job_bit(
+    rt: &(impl Print + Eprint),
+    out: Out,
+    room: &mut [u8],
+    bit: u64,
+    id: u8,
+    job: u32,
+) -> Out
     ensures { out.failures ≤ result.failures }
 {
-    let digit = stream::number(out, room, bit);
+    let digit = stream::number(rt, out, room, bit);
     let end = [id];
-    let named = stream::word(digit, room, &end, job as u64);
-    stream::text(named, room, b"\n")
+    let named = stream::word(rt, digit, room, &end, job as u64);
+    stream::text(rt, named, room, b"\n")
 }

@@ -1,0 +1,10 @@
+-- The loop keeps that the rows before the present job are those of the bytes.
+use Rattle.cases.specs.Prelude.{◌-◌, Filled, idle, jobs, length, ◌≡◌, ◌≤◌}
+use Rattle.cases.specs.Layout.{row_at}
+use Rattle.cases.proofs.layout.rows_of.Given as goal
+
+abbrev pub invariant-loop-job : goal.invariant-loop-job
+invariant-loop-job l = (l.job ≤ jobs) × (length l.rows ≡ jobs) × Filled (λ k r. r ≡ row_at l.bytes k) idle l.rows l.job
+
+abbrev pub decreases-loop-job : goal.decreases-loop-job
+decreases-loop-job l = jobs - l.job

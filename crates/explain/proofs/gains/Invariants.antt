@@ -1,0 +1,9 @@
+-- No failure is forgotten.
+use Rattle.explain.specs.Prelude.{◌-◌, ◌≤◌}
+use Rattle.explain.proofs.gains.Given as goal
+
+abbrev pub invariant-loop-i : goal.invariant-loop-i
+invariant-loop-i g l = l.initial.told.failures ≤ l.told.failures
+
+abbrev pub decreases-loop-i : goal.decreases-loop-i
+decreases-loop-i g l = l.end - l.i

@@ -1,0 +1,12 @@
+-- A space and at most twenty digits.
+use Rattle.page.specs.Prelude.{arith, length_text_u64}
+use Rattle.page.proofs.put_spaced.Goals as goal
+
+pub put_number-requires : goal.put_number-requires
+put_number-requires c =
+    omega (arith, length_text_u64 c.args.n (omega arith), c.requires)
+
+pub returns : goal.returns
+returns c =
+    let w = c.put_number.ensures in
+    record { wrote = w; upper_bound = omega (arith, w.ends, length_text_u64 c.args.n (omega arith)) }

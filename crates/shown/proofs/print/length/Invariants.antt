@@ -1,0 +1,9 @@
+-- The loop stays within the word.
+use Rattle.shown.specs.Prelude.{◌-◌, ◌≤◌}
+use Rattle.shown.proofs.print.length.Given as goal
+
+abbrev pub invariant-loop-i : goal.invariant-loop-i
+invariant-loop-i l = l.i ≤ 8
+
+abbrev pub decreases-loop-i : goal.decreases-loop-i
+decreases-loop-i l = 8 - l.i

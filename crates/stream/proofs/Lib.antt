@@ -1,2 +1,0 @@
--- Laws that only the proofs of functions use.
-pub mod Places
