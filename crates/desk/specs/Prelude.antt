@@ -18,7 +18,7 @@ pub use Rattle.arbiter.specs.declared.table.Next.{Next}
 pub use Rattle.arbiter.specs.declared.table.Table.{Table}
 pub use Rattle.service.specs.File.{read_cases, table_in}
 unfoldable pub use Rattle.service.specs.File.{table_read}
-pub use Rattle.service.specs.RoundTrip.{read_sound}
+pub use Rattle.service.proofs.RoundTrip.{read_sound}
 unfoldable pub use Rattle.loading.specs.Meaning.{load_answer, load_table}
 pub use Rattle.loading.specs.Promises.{Loaded}
 pub use Rattle.page.specs.Determined.{shown_said}

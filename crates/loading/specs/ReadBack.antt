@@ -2,7 +2,7 @@
 -- saved loads back.
 use Rattle.loading.specs.Prelude.{List, Table, UnsoundTable, ◌++◌, ◌≡◌, acceptance_tells, case, clear, drop, fine, jobs, length, no_table, not-false, number_of, over, refl, saysDone, sound, take, take_at, true, ℕ}
 use Rattle.service.specs.File.{file, read_cases, table_in, table_read, write_cases}
-use Rattle.service.specs.RoundTrip.{file_reads}
+use Rattle.service.proofs.RoundTrip.{file_reads}
 use Rattle.saving.specs.Meaning.{room_after, save_answer}
 use Rattle.loading.specs.Meaning.{load_answer, load_table}
 

@@ -7,6 +7,5 @@ pub mod Placing
 pub mod PlacingLaws
 pub mod Prelude
 pub mod Promises
-pub mod RoundTrip
 pub mod SoundLaws
 pub mod Worked

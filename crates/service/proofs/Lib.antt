@@ -1,0 +1,2 @@
+-- Files there and back: writing a table and reading it again.
+pub mod RoundTrip
