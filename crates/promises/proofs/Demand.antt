@@ -2,6 +2,7 @@
 pub mod Example
 pub mod GivenUp
 pub mod Holds
+pub mod Opened
 pub mod Others
 pub mod Partings
 pub mod Sets

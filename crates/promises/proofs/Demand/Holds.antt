@@ -5,7 +5,8 @@ use Rattle.promises.specs.Demand.Statement.{Demand3, HasParted, Supposed, after_
 use Rattle.promises.proofs.Demand.GivenUp.{gone_for_good}
 use Rattle.promises.proofs.Demand.Others.{run_heeded, tally_heeded, unmoved, way_bounded}
 use Rattle.promises.proofs.Demand.Sets.{ask_granted, ask_has_token, ask_says_lem}
-use Rattle.promises.proofs.Demand.Token.{ahead_opened, all_before, along_opened, below_at_most, declared_opened, token_by_all, token_by_earlier, token_told}
+use Rattle.promises.proofs.Demand.Opened.{ahead_opened}
+use Rattle.promises.proofs.Demand.Token.{all_before, along_opened, below_at_most, declared_opened, token_by_all, token_by_earlier, token_told}
 use Rattle.promises.proofs.History.Events.{accepts}
 use Rattle.promises.specs.History.Words.{Along, Bears, completing_by, completions, given_up, in_its_way, ours, parting_by, partings, parts_by_other, parts_by_own}
 use Rattle.promises.proofs.History.Count.{along_run}
