@@ -36,9 +36,10 @@ impl Sheet<'_> {
     pub fn crates(&mut self) {
         self.head("The crates, and how large they are");
         self.paragraph(
-            "Lines are those that are neither empty nor comment: code in src, definitions and laws with \
-             their proofs in specs, proofs of functions in proofs. Of a crate that is kept, an earlier run on this \
-             machine proved the same files, and its functions and axioms stand in the output of that run.",
+            "Lines are those that are neither empty nor comment: code in src, definitions and most laws with \
+             their proofs in specs, other laws and proofs of functions in proofs. Of a crate that is kept, an \
+             earlier run on this machine proved the same files, and its functions and axioms stand in the output \
+             of that run.",
         );
         let counts = [">functions", ">src", ">specs", ">proofs", ">axioms", ">edits refused"];
         let mut table = Table::new(&[&["crate", "result"], &counts[..], &["kit libraries beside std"]].concat());

@@ -208,7 +208,7 @@ impl Judgement {
 
     fn demands(&mut self, tree: &Tree) {
         if tree.theorem.is_empty() {
-            self.against("demand 3: no file of crates/promises/specs has the theorem demand3".to_string());
+            self.against("demand 3: no file of crates/promises/proofs has the theorem demand3".to_string());
         }
         for found in demand3::disagreements(&tree.statement, &demand3::SENTENCES) {
             self.against(format!("demand 3: {found}"));

@@ -125,7 +125,7 @@ fn edits(folder: &Path, before: &str) -> Result<Vec<Edit>, String> {
 }
 
 fn theorem(root: &Path) -> Result<Vec<String>, String> {
-    for file in files_below(&root.join("crates/promises/specs"), "antt")? {
+    for file in files_below(&root.join("crates/promises/proofs"), "antt")? {
         let place = file.strip_prefix(root).unwrap_or(&file).display().to_string();
         let found = theorem_in(&place, &text_of(&file)?);
         if !found.is_empty() {

@@ -44,7 +44,7 @@ pub const DEMANDS: [Demand; 3] = [
                  reported falls by those who part from it, each once. No later request and no \
                  refused event changes any of this.",
         carried_by: &[
-            (&["demand3"], "crates/promises/specs/Demand/Holds.antt"),
+            (&["demand3"], "crates/promises/proofs/Demand/Holds.antt"),
             (&["Demand3"], "crates/promises/specs/Demand/Statement.antt"),
         ],
     },

@@ -1,5 +1,5 @@
 -- The sessions turn out as the documents say.
-use Rattle.promises.specs.Prelude.{◌+◌, ◌-◌, Ask, Complete, Open, Release, Table, Tick, [], ahead, all, answer, below, count, course, distinct, encode, false, fine, first, forward, under, highest, in_way, inside, jobs, keep, late, late_in, leaves, lined, meet, meets, next, outcome, overdue, place, refl, refused, report, run, saysWait, settled, sound, start_table, true, union, wakes, without, woken, ℕ, ◌∷◌, ◌≡◌}
+use Rattle.promises.specs.Prelude.{ahead, all, answer, below, count, course, distinct, first, forward, under, in_way, inside, keep, late_in, leaves, lined, meet, meets, next, outcome, overdue, place, refl, report, settled, sound, start_table, union, without, woken}
 use Rattle.promises.specs.Sessions.{Claim, Session}
 use Rattle.promises.specs.Sessions.Session.{P1, P2, P3, P4, P5, P6, P7, P8, P9, P10, P11, P12, leap, last-leap}
 use Rattle.record.specs.Worked as Record

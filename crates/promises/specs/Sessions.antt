@@ -1,8 +1,7 @@
 -- The sessions that document 01 marks P, with P3 as document 02 [4] has it and two leaps besides: one table of claims about the
 -- meanings, each by computation.
-use Rattle.promises.specs.Prelude.{◌+◌, ◌-◌, Ask, Complete, Open, Release, Table, Tick, [], ahead, all, answer, below, count, course, distinct, encode, false, fine, first, forward, under, highest, in_way, inside, jobs, keep, late, late_in, leaves, lined, meet, meets, next, outcome, overdue, place, refl, refused, report, run, saysWait, settled, sound, start_table, true, union, wakes, without, woken, ℕ, ◌∷◌, ◌≡◌}
+use Rattle.promises.specs.Prelude.{◌+◌, ◌-◌, Ask, Complete, Open, Release, Table, Tick, [], answer, encode, false, fine, forward, highest, jobs, late, overdue, refused, report, run, saysWait, start_table, true, wakes, ℕ, ◌∷◌, ◌≡◌}
 use Rattle.event.specs.declared.events.Entry.TheVariants.{Event}
-use Rattle.record.specs.Worked as Record
 
 -- the sessions marked P, and a leap, also where true time would pass the highest
 pub data Session : Type 0 where

@@ -331,7 +331,7 @@ fn an_axiom_in_the_sources() {
 
 #[test]
 fn no_theorem() {
-    tree_against(|tree| tree.theorem.clear(), &["no file of crates/promises/specs has the theorem demand3"]);
+    tree_against(|tree| tree.theorem.clear(), &["no file of crates/promises/proofs has the theorem demand3"]);
     let module = "module _ (T : ℕ)\n  (R : ℕ) where\n  pub demand3 : Demand3 T R\n";
     let found = theorem_in("Holds.antt", &format!("module Other where\n{module}"));
     assert_eq!(found, ["Holds.antt:4", "module _ (T : ℕ)", "  (R : ℕ) where", "  pub demand3 : Demand3 T R"]);

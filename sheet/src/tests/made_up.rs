@@ -32,7 +32,7 @@ pub fn tree() -> Tree {
         breaks: vec![edit("order-by-tick", "turns are ticks"), edit("hour-refused", "an hour is refused")],
         statement: pieces(&statement()),
         theorem: vec![
-            "crates/promises/specs/Demand/Holds.antt:9".to_string(),
+            "crates/promises/proofs/Demand/Holds.antt:9".to_string(),
             "  pub demand3 : Demand3 ours".to_string(),
         ],
         ..Tree::default()

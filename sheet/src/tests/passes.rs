@@ -21,7 +21,7 @@ fn the_first_page_is_enough_to_sign_by() {
     let sheet = sheet_of(&output());
     let sum = sum();
     let signed = ["c0ffee of 2026", "sha256 5eed", &sum, "rattle-kit-7", "--archive norakkeun", "bin/bundle"];
-    let proved = ["demand3", "crates/promises/specs/Demand/Holds.antt", "AnsweredInto", "one_record"];
+    let proved = ["demand3", "crates/promises/proofs/Demand/Holds.antt", "AnsweredInto", "one_record"];
     let trusted = ["LLVM", "norakkeun.h", "memcpy", "linker", "libos_c.a", "rattle_errno", "write", "do not name"];
     let compared = ["31 passed", "seed 4711", "seed 4712", "seed 4713", "2 broken rules", "both examples ran"];
     let ran = ["9 of 9 crates, with 9 functions", "2 of 2 refused", "sheet, commands, cost, edits, rules"];

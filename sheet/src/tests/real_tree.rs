@@ -34,7 +34,7 @@ fn the_pieces_are_the_statement() {
 #[test]
 fn what_the_first_page_names_is_there() {
     assert_eq!(tree().not_there, Vec::<String>::new());
-    assert!(tree().theorem.first().is_some_and(|place| place.starts_with("crates/promises/specs/Demand/Holds.antt:")));
+    assert!(tree().theorem.first().is_some_and(|place| place.starts_with("crates/promises/proofs/Demand/Holds.antt:")));
 }
 
 /// Pages, commands and headings that the first page sends her to.

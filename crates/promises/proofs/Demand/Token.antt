@@ -1,20 +1,19 @@
 -- The token of a request: it is opened with all live requests before it, and as many must complete as are too many.
-use Rattle.promises.specs.Prelude.{Ask, Beat, Bool, Complete, GiveUp, List, Open, Release, Row, Table, Tick, [], ◌&&◌, ◌+◌, ◌-◌, ◌<◌, ◌||◌, ◌∙◌, ◌∷◌, ◌≡◌, ◌≤◌, accepted, ahead, ahead_mono, ahead_set, and_left, and-true, ap, ap₂, arith, bit, blocked, cond, count, count_mono, course, earlier, either, eqb, false, get_or-set_same, idle, jobs, le_antisymm, le-leb, leb, leb-true, length, live, lt-ltb, ltb, ltb-false, ltb-true, names, next, not, opened_row, refl, row_in, run, same, subst, sym, time_at, token, true, turn_earlier, waiting, wakes, ℕ}
+use Rattle.promises.specs.Prelude.{Ask, Beat, Bool, Complete, GiveUp, List, Open, Release, Row, Table, Tick, [], ◌&&◌, ◌+◌, ◌-◌, ◌<◌, ◌||◌, ◌∙◌, ◌∷◌, ◌≡◌, ◌≤◌, accepted, ahead, ahead_mono, and_left, and-true, ap, ap₂, arith, bit, blocked, cond, count, count_mono, course, earlier, either, eqb, false, get_or-set_same, idle, jobs, le_antisymm, le-leb, leb, leb-true, length, live, lt-ltb, ltb, ltb-false, ltb-true, names, next, not, opened_row, refl, row_in, run, same, subst, sym, time_at, token, true, turn_earlier, waiting, wakes, ℕ}
 use Rattle.event.specs.declared.events.Event.{Event}
 use Rattle.promises.specs.History.Words.{completing_by, completions, lists, taken, Along, Bears, tally_of}
 use Rattle.promises.proofs.History.Events.{next_either}
-use Rattle.kept.specs.Changes.{lower_ahead}
 use Rattle.kept.specs.Words.{Accepts, Acts}
 use Rattle.promises.proofs.History.Count.{ahead_run, along_accepted, along_next}
 use Rattle.promises.proofs.History.Row.{alive, bears_after, lives, sets_after, waiting_is}
 use Rattle.promises.proofs.History.Woken.{listed_after, unnamed}
-use Rattle.kept.specs.Accepted.{acts, next_accepted, open_below, open_idle, was_sound}
+use Rattle.kept.specs.Accepted.{acts, next_accepted, open_below, was_sound}
 use Rattle.kept.specs.Sound.Facts.{turns_given}
 
 -- ---- The opening
 
 module _ {T : ℕ} (t : Table) (along : Along T 0 t) (j : ℕ) (tick : Tick) (s : ℕ) (ok : Accepts jobs t (Open j tick s)) where
-  abbrev n : ℕ
+  abbrev pub n : ℕ
   n = t.last.0 + 1
 
   pub along_opened : Along T n (next jobs t (Open j tick s))
