@@ -1,4 +1,6 @@
 -- The tests are the cases, in their order.
+use Rattle.std.specs.Prelude.{◌≡◌, false}
+use Rattle.std.proofs.Common.{rules}
 use Rattle.grounds.specs.Prelude.{◌∙◌, ap, le-ltb, lt-ltb, none, not, outcome_is, past, sym, this}
 use Rattle.grounds.proofs.actor_verdict.Goals as goal
 
@@ -12,10 +14,10 @@ returns-then-not-s c =
 
 pub returns-then-s-gt0 : goal.returns-then-s-gt0
 returns-then-s-gt0 c =
-    outcome_is _ (past (ap not (sym c.live.ensures ∙ c.if-not-live.false))
-    (past c.if-not-s.false (this (lt-ltb _ _ c.if-s-gt0.true))))
+    let held : not c.args.s.token ≡ false = search rules in
+    outcome_is _ (past (ap not (sym c.live.ensures ∙ c.if-not-live.false)) (past held (this (lt-ltb _ _ c.if-s-gt0.true))))
 
 pub returns : goal.returns
 returns c =
-    outcome_is _ (past (ap not (sym c.live.ensures ∙ c.if-not-live.false))
-    (past c.if-not-s.false (past (le-ltb _ _ c.if-s-gt0.false) none)))
+    let held : not c.args.s.token ≡ false = search rules in
+    outcome_is _ (past (ap not (sym c.live.ensures ∙ c.if-not-live.false)) (past held (past (le-ltb _ _ c.if-s-gt0.false) none)))

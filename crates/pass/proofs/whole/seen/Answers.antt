@@ -1,4 +1,6 @@
 -- What the numbers, the line and the walk tell is what a call sees.
+use Rattle.std.specs.Prelude.{◌≡◌}
+use Rattle.std.proofs.Common.{rules}
 use Rattle.pass.specs.Prelude.{ap, not, refl, sym, true}
 use Rattle.pass.specs.SurveyLaws.{out_of_range, surveyed}
 use Rattle.pass.proofs.whole.seen.Goals as goal
@@ -12,5 +14,6 @@ pub returns : goal.returns
 returns c = λ rows j zero lines walks.
     let range = c.numbers_sound in
     let a = c.args in
-    surveyed a.b rows range.result range.ensures (ap not c.if-not-numbers_sound.false) true (sym zero) refl j a.walked walks a.line lines
+    let fits : range.result ≡ true = search rules in
+    surveyed a.b rows range.result range.ensures (ap not fits) true (sym zero) refl j a.walked walks a.line lines
     c.token.result c.token.ensures
