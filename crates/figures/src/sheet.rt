@@ -83,6 +83,7 @@ pub fn put(sheet: &mut [u64], at: usize, n: u64)
 }
 
 // The greater of two numbers.
+#[tactic(auto, unfolding(crate::specs::Sheet::topmost))]
 fn greater(a: u64, b: u64) -> u64
     ensures { result ≡ topmost a b }
 {
@@ -93,6 +94,7 @@ fn greater(a: u64, b: u64) -> u64
 }
 
 // One more, as long as there are numbers.
+#[tactic(auto, unfolding(crate::specs::Sheet::more))]
 fn next(n: u64) -> u64
     ensures { result ≡ more n }
 {

@@ -1,6 +1,6 @@
 -- The names from outside that this crate's definitions and proofs use, passed on by one module.
 pub use Rattle.std.specs.Prelude.{◌*◌, ◌+◌, ◌-◌, ◌<◌, ◌≤◌, suc, zero, ℕ, Bool, cond, false, true, List, [], ◌++◌, ◌∷◌, ◌≡◌, refl, drop, get_or, length, take}
-pub use Rattle.std.proofs.Common.{append_assoc, append-nil, ◌∙◌, ap, subst, sym, add-one, arith, rules, take_all, take-suc}
+pub use Rattle.std.proofs.Common.{append_assoc, append-nil, ◌∙◌, ap, subst, sym, add-one, arith, take_all, take-suc}
 pub use Rattle.std.proofs.Math.Seq.{take-append_seam}
 pub use Rattle.laws.specs.Cases.{fine, keep_unless, unless}
 unfoldable pub use Rattle.laws.specs.Cases.{first, leaves, outcome}
