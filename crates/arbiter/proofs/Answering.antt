@@ -1,6 +1,7 @@
 -- From an outcome under the cases of an event to its promise: a refusal leaves all as it was, an acceptance does what the
 -- event means.
-use Rattle.arbiter.specs.Prelude.{Event, List, Next, Refusal, Table, acceptance_tells, fine, length, number_of, outcome, over, refusal_tells, refused, sym, ℕ, ◌∙◌, ◌≡◌}
+use Rattle.std.specs.Prelude.{◌≡◌}
+use Rattle.arbiter.specs.Prelude.{Event, List, Next, Refusal, Table, acceptance_tells, fine, length, number_of, outcome, over, refusal_tells, refused, sym, ℕ, ◌∙◌}
 use Rattle.arbiter.specs.Meaning.{accepted, answer, listed, next, said, wakes}
 use Rattle.arbiter.specs.Promises.{Answered, AnsweredInto}
 use Rattle.arbiter.specs.Effects.{Does, Refuses}

@@ -1,5 +1,6 @@
 -- An event carried out by what it sees of a table is what the event means.
-use Rattle.arbiter.specs.Prelude.{Acts, Ask, Beat, Bool, Case, Change, Complete, Event, GiveUp, List, Next, NoToken, NotLive, Onward, Open, Refusal, Release, Seen, Settles, StillWaiting, Swept, Table, [], ◌&&◌, ◌++◌, ◌<◌, ◌∙◌, ◌≡◌, ◌≤◌, about, acceptance_tells, actor, ahead, all, among, and_left, and_right, ap, arith, calling, case, clear, clear_named, cond, described, ended, every_kind, false, fine, implied, implies, job_of, jobs, kind_of, le-ltb, le-zero, leb-false, length, live, lt-ltb, ltb-false, ltb-true, not-false, of_role, outcome, outcome_is, outcome_past, over, refl, refusals_of, refused, set, set_of, settled_rows, sound_steady, stayed, sym, this, tick_of, true, true≢false, woken, ℕ}
+use Rattle.std.specs.Prelude.{◌&&◌, ◌++◌, ◌<◌, ◌≡◌, ◌≤◌}
+use Rattle.arbiter.specs.Prelude.{Acts, Ask, Beat, Bool, Case, Change, Complete, Event, GiveUp, List, Next, NoToken, NotLive, Onward, Open, Refusal, Release, Seen, Settles, StillWaiting, Swept, Table, [], ◌∙◌, about, acceptance_tells, actor, ahead, all, among, and_left, and_right, ap, arith, calling, case, clear, clear_named, cond, described, ended, every_kind, false, fine, implied, implies, job_of, jobs, kind_of, le-ltb, le-zero, leb-false, length, live, lt-ltb, ltb-false, ltb-true, not-false, of_role, outcome, outcome_is, outcome_past, over, refl, refusals_of, refused, set, set_of, settled_rows, sound_steady, stayed, sym, this, tick_of, true, true≢false, woken, ℕ}
 use Rattle.arbiter.proofs.Answering.{accepted_answers}
 use Rattle.arbiter.specs.Answers.{said_of, says_woke}
 use Rattle.arbiter.specs.Bounded.{bounds_of}

@@ -1,5 +1,6 @@
 -- What the calls on a table promise determines what they hand back.
-use Rattle.arbiter.specs.Prelude.{Event, List, Next, Table, ◌≡◌, determined, ℕ}
+use Rattle.std.specs.Prelude.{◌≡◌}
+use Rattle.arbiter.specs.Prelude.{Event, List, Next, Table, determined, ℕ}
 use Rattle.arbiter.specs.Determined.{same_next}
 use Rattle.arbiter.specs.Promises.{Answered, AnsweredInto, Started}
 

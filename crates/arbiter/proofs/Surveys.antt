@@ -1,5 +1,6 @@
 -- What a survey of a table says about an event.
-use Rattle.arbiter.specs.Prelude.{Bool, Bounds, Event, Known, Lines, List, Row, Seen, Settles, Survey, Surveyed, Swept, Table, ◌<◌, ◌^◌, ◌∙◌, ◌≡◌, ap, job_of, ltb, meets, outcome, set_of, subst, sym, true, ℕ}
+use Rattle.std.specs.Prelude.{◌<◌, ◌^◌, ◌≡◌}
+use Rattle.arbiter.specs.Prelude.{Bool, Bounds, Event, Known, Lines, List, Row, Seen, Settles, Survey, Surveyed, Swept, Table, ◌∙◌, ap, job_of, ltb, meets, outcome, set_of, subst, sym, true, ℕ}
 use Rattle.arbiter.specs.ChangeLaws.{all_ahead, change_on, forbids, has_room, seen_by_lem, sound_by_lem, sound_last}
 use Rattle.decision.specs.Changes.{change_for, refusal_cases}
 use Rattle.arbiter.specs.Bounded.{bounds_of}

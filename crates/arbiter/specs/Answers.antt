@@ -13,16 +13,16 @@ use Rattle.arbiter.specs.declared.table.Reported.TheVariants as Reports
 
 -- the answer to an accepted event: "token", "granted", "wait", simply done, or how many jobs it woke
 pub data Said : Type 0 where
-  saysToken saysGranted saysWait saysDone : Said
+  says_token says_granted says_wait says_done : Said
   says_woke : ℕ → Said
 
 -- what the answer to an event or a start says
 abbrev pub said_of : Answer → Outcome Said
 said_of (Answers.No r) = refused (number_of r)
-said_of Answers.Token = fine saysToken
-said_of Answers.Granted = fine saysGranted
-said_of Answers.Wait = fine saysWait
-said_of Answers.Done = fine saysDone
+said_of Answers.Token = fine says_token
+said_of Answers.Granted = fine says_granted
+said_of Answers.Wait = fine says_wait
+said_of Answers.Done = fine says_done
 said_of (Answers.Woke n) = fine (says_woke n)
 
 -- what the answer to a report says

@@ -1,12 +1,13 @@
 -- What an event comes to on a table, by what it sees of it.
-use Rattle.arbiter.specs.Prelude.{Bool, Table, Ask, Beat, Change, Complete, Event, GiveUp, List, Open, Release, Row, Seen, [], ◌+◌, ◌∙◌, ◌∷◌, ◌≡◌, about, ap, blocked, cond, false, fine, get_or, idle, job_of, not, outcome, outcome_is, refl, refused, seen_by, set, set_of, settled_rows, sound_by, suc, sym, this, token, true, true≢false, zero, ℕ, ◌&&◌, ◌<◌, ◌^◌, ◌≤◌, ahead, all, all_each, and_left, and_right, arith, count_and_true, count_every, count_line, count_mono, distinct, earlier, highest, holds, le_antisymm, leb, leb-true, length, line, live, ltb-true, turn_earlier, Survey, Surveyed}
+use Rattle.std.specs.Prelude.{◌+◌, ◌∷◌, ◌≡◌, ◌&&◌, ◌<◌, ◌^◌, ◌≤◌}
+use Rattle.arbiter.specs.Prelude.{Bool, Table, Ask, Beat, Change, Complete, Event, GiveUp, List, Open, Release, Row, Seen, [], ◌∙◌, about, ap, blocked, cond, false, fine, get_or, idle, job_of, not, outcome, outcome_is, refl, refused, seen_by, set, set_of, settled_rows, sound_by, suc, sym, this, token, true, true≢false, zero, ℕ, ahead, all, all_each, and_left, and_right, arith, count_and_true, count_every, count_line, count_mono, distinct, earlier, highest, holds, le_antisymm, leb, leb-true, length, line, live, ltb-true, turn_earlier, Survey, Surveyed}
 use Rattle.decision.specs.Changes.{ask_answer, change_for, decided, open_answer, refusal_cases}
 use Rattle.arbiter.specs.Bounded.{bounds_of}
 use Rattle.decision.specs.declared.deciding.Decision.{Decision}
 use Rattle.arbiter.specs.Meaning.{accepted, moved, said, wakes}
 use Rattle.arbiter.specs.Refusals.{seen_in}
 use Rattle.arbiter.specs.Sound.{counters, ranges, row_in, sound, sound_row}
-use Rattle.arbiter.specs.Answers.{said_of, saysGranted, saysToken, saysWait, says_woke}
+use Rattle.arbiter.specs.Answers.{said_of, says_granted, says_token, says_wait, says_woke}
 
 -- ---- What a survey of a table tells
 
@@ -84,12 +85,12 @@ pub change_said : (t : Table) (e : Event) → (about e).wakes ≡ false → said
 change_said t (Beat tick) quiet = refl
 change_said t (Open j tick s) quiet = go (has_room t)
   where
-    go : (b : Bool) → said_of (open_answer b) ≡ fine (cond b saysToken saysWait)
+    go : (b : Bool) → said_of (open_answer b) ≡ fine (cond b says_token says_wait)
     go true = refl
     go false = refl
 change_said t (Ask j tick s) quiet = go (forbids t (Ask j tick s))
   where
-    go : (b : Bool) → said_of (ask_answer b) ≡ fine (cond b saysWait saysGranted)
+    go : (b : Bool) → said_of (ask_answer b) ≡ fine (cond b says_wait says_granted)
     go true = refl
     go false = refl
 change_said t (Release j tick s) quiet = refl

@@ -1,6 +1,7 @@
 -- The promises determine what is handed back, and what is left in lent memory.
-use Rattle.arbiter.specs.Prelude.{Answer, Change, Count, Late, List, Next, No, Outcome, Reported, Table, ◌≡◌, answer_by, ap, determined, refl, refusal_of_number_of, told_apart, ℕ}
-use Rattle.arbiter.specs.Answers.{Said, late_of, report_of, said_of, saysDone, saysGranted, saysToken, saysWait, says_woke}
+use Rattle.std.specs.Prelude.{◌≡◌}
+use Rattle.arbiter.specs.Prelude.{Answer, Change, Count, Late, List, Next, No, Outcome, Reported, Table, answer_by, ap, determined, refl, refusal_of_number_of, told_apart, ℕ}
+use Rattle.arbiter.specs.Answers.{Said, late_of, report_of, said_of, says_done, says_granted, says_token, says_wait, says_woke}
 use Rattle.arbiter.specs.Promises.{ReportAnswered, OverdueAnswered}
 use Rattle.decision.specs.Changes.{decided}
 use Rattle.decision.specs.declared.deciding.Decision.{Decision}
@@ -13,10 +14,10 @@ use Rattle.arbiter.specs.declared.table.Reported.TheVariants as Reporteds
 
 -- the answer to an event that says this
 abbrev told_by : Said → Answer
-told_by saysToken = Answers.Token
-told_by saysGranted = Answers.Granted
-told_by saysWait = Answers.Wait
-told_by saysDone = Answers.Done
+told_by says_token = Answers.Token
+told_by says_granted = Answers.Granted
+told_by says_wait = Answers.Wait
+told_by says_done = Answers.Done
 told_by (says_woke n) = Answers.Woke n
 
 answer_said : (a : Answer) → answer_by Answers.No told_by (said_of a) ≡ a

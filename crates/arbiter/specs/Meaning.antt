@@ -13,7 +13,7 @@ use Rattle.rows.specs.Sweep.{settled, woken}
 use Rattle.rows.specs.declared.row.Row.{Row}
 use Rattle.request.specs.Change.{asking, giving_up, opening, releasing}
 use Rattle.questions.specs.Late.{late_in}
-use Rattle.arbiter.specs.Answers.{Said, saysDone, saysGranted, saysToken, saysWait, says_woke}
+use Rattle.arbiter.specs.Answers.{Said, says_done, says_granted, says_token, says_wait, says_woke}
 use Rattle.arbiter.specs.Sound.{row_in}
 use Rattle.arbiter.specs.Refusals.{cases, overdue_cases, report_cases, start_cases}
 use Rattle.arbiter.specs.declared.table.Report.{Report}
@@ -81,18 +81,18 @@ wakes t e = cond (about e).wakes (woken t.tokens t.rows (rows_after t e)) []
 
 -- an opening says "token" if it has one, else "wait"
 abbrev pub open_says : Table → Said
-open_says t = cond (token t.tokens t.rows (t.last.0 + 1)) saysToken saysWait
+open_says t = cond (token t.tokens t.rows (t.last.0 + 1)) says_token says_wait
 
 -- an ask says "wait" where Q3 forbids the set, else "granted"
 abbrev pub ask_says : Table → Row → ℕ → Said
-ask_says t r s = cond (blocked t.rows r.turn.0 s) saysWait saysGranted
+ask_says t r s = cond (blocked t.rows r.turn.0 s) says_wait says_granted
 
 -- the answer to an accepted event
 abbrev pub said : Table → Event → Said
-said t (Beat tick) = saysDone
+said t (Beat tick) = says_done
 said t (Open j tick s) = open_says t
 said t (Ask j tick s) = ask_says t (row_in t j) s
-said t (Release j tick s) = saysDone
+said t (Release j tick s) = says_done
 said t (Complete j tick) = says_woke (length (wakes t (Complete j tick)))
 said t (GiveUp j tick s) = says_woke (length (wakes t (GiveUp j tick s)))
 
@@ -124,7 +124,7 @@ fresh_table T R tick limit =
 
 -- the answer to a start: refused as 1, or simply done
 unfoldable pub start_answer : ℕ → ℕ → ℕ → Outcome Said
-start_answer T R limit = outcome (start_cases T R limit) saysDone
+start_answer T R limit = outcome (start_cases T R limit) says_done
 
 -- a refused start hands back the all-zero table
 unfoldable pub start_table : ℕ → ℕ → ℕ → ℕ → Table

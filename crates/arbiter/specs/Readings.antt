@@ -1,5 +1,6 @@
 -- What the tests on sets say of single resources: the refusals 11 to 15, Q3, and the set conditions of a sound row.
-use Rattle.arbiter.specs.Prelude.{Above, Apart, Ask, Beyond, Bool, GiveUp, InTheWay, List, None, Reads, Release, Row, Shared, Some, Table, Tick, Under, Within, ◌<◌, ◌and◌, ◌↔◌, ◌∙◌, ◌≡◌, ◌||◌, ◌⊎◌, ap, arith, below, below_reads, blocked, case, empty, eqb, eqb-false, eqb-true, false, hold, holds, in_way_at, in_way_some, in_way, inl, inr, inside, inside_reads, le-leb, leb-true, lt-ltb, ltb, ltb-false, ltb-true, meets_reads, member, none, nth, or-true, reading, reads_not, refl, row_of, some_member, sym, true, true≢false, ℕ, ⊎_elim}
+use Rattle.std.specs.Prelude.{◌<◌, ◌↔◌, ◌≡◌, ◌||◌, ◌⊎◌}
+use Rattle.arbiter.specs.Prelude.{Above, Apart, Ask, Beyond, Bool, GiveUp, InTheWay, List, None, Reads, Release, Row, Shared, Some, Table, Tick, Under, Within, ◌and◌, ◌∙◌, ap, arith, below, below_reads, blocked, case, empty, eqb, eqb-false, eqb-true, false, hold, holds, in_way_at, in_way_some, in_way, inl, inr, inside, inside_reads, le-leb, leb-true, lt-ltb, ltb, ltb-false, ltb-true, meets_reads, member, none, nth, or-true, reading, reads_not, refl, row_of, some_member, sym, true, true≢false, ℕ, ⊎_elim}
 use Rattle.arbiter.specs.Refusals.{cases}
 use Rattle.grounds.specs.Grounds.{set_cases}
 use Rattle.arbiter.specs.OwnRow.{OwnRow}

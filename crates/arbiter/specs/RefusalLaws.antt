@@ -1,5 +1,6 @@
 -- The cases of each call stand in the one order of the documents, so the first that applies is the first of that order.
-use Rattle.arbiter.specs.Prelude.{Event, Table, [], ◌++◌, ◌≡◌, all, any, ascends, cases_by, cond, described, documented, every_kind, follows, job_of, kind_of, refl, refusals_of, set_of, tick_of, true, ℕ}
+use Rattle.std.specs.Prelude.{◌++◌, ◌≡◌}
+use Rattle.arbiter.specs.Prelude.{Event, Table, [], all, any, ascends, cases_by, cond, described, documented, every_kind, follows, job_of, kind_of, refl, refusals_of, set_of, tick_of, true, ℕ}
 use Rattle.arbiter.specs.Refusals.{cases, start_cases, report_cases, overdue_cases, applies, calling, list_cases}
 
 -- tried on each kind, by computing

@@ -1,5 +1,6 @@
 -- What a survey of a table says about a question.
-use Rattle.asking.specs.Prelude.{Bool, Bounds, Event, Known, List, Listed, Report, Row, Seen, Survey, Surveyed, Table, ◌∙◌, ◌≡◌, ap, bounds_of, in_way, job_of, late_in, outcome, refusal_cases, reported, row_in, seen_by_lem, seen_in, sound, sound_by_lem, subst, survey_tells, true, waiting_by_lem, waiting_by, ℕ}
+use Rattle.std.specs.Prelude.{◌≡◌}
+use Rattle.asking.specs.Prelude.{Bool, Bounds, Event, Known, List, Listed, Report, Row, Seen, Survey, Surveyed, Table, ◌∙◌, ap, bounds_of, in_way, job_of, late_in, outcome, refusal_cases, reported, row_in, seen_by_lem, seen_in, sound, sound_by_lem, subst, survey_tells, true, waiting_by_lem, waiting_by, ℕ}
 
 -- what is found from what is seen holds for the table
 pub seen_tells :

@@ -4,7 +4,7 @@ use Prim.Native.String.{String}
 use Rattle.decimal.specs.Text.{ascii}
 use Rattle.laws.specs.Bools.{bit}
 use Rattle.laws.specs.Cases.{Outcome, fine, refused}
-use Rattle.arbiter.specs.Answers.{Said, saysDone, saysGranted, saysToken, saysWait, says_woke}
+use Rattle.arbiter.specs.Answers.{Said, says_done, says_granted, says_token, says_wait, says_woke}
 use Rattle.arbiter.specs.declared.table.Report.{Report}
 use Rattle.called.specs.declared.lines.Line.{Line}
 
@@ -28,10 +28,10 @@ refusal_line n = says " no" (n ∷ [])
 -- the line of the answer to an event or a start
 abbrev pub answer_line : Outcome Said → Line
 answer_line (refused n) = refusal_line n
-answer_line (fine saysToken) = says " token" []
-answer_line (fine saysGranted) = says " granted" []
-answer_line (fine saysWait) = says " wait" []
-answer_line (fine saysDone) = says " done" []
+answer_line (fine says_token) = says " token" []
+answer_line (fine says_granted) = says " granted" []
+answer_line (fine says_wait) = says " wait" []
+answer_line (fine says_done) = says " done" []
 answer_line (fine (says_woke n)) = says " woke" (n ∷ [])
 
 -- the line of how many are overdue

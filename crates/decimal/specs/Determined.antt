@@ -1,5 +1,6 @@
 -- The promises determine what is handed back, and what is left in lent memory.
-use Rattle.decimal.specs.Prelude.{List, Wrote, sym, ℕ, ◌∙◌, ◌≡◌}
+use Rattle.std.specs.Prelude.{◌≡◌}
+use Rattle.decimal.specs.Prelude.{List, Wrote, sym, ℕ, ◌∙◌}
 
 pub text_determined :
     {before text after after' : List ℕ} {k end end' : ℕ} → Wrote before k text end after → Wrote before k text end' after' →

@@ -1,5 +1,6 @@
 -- Laws of decimal text: both round trips.
-use Rattle.decimal.specs.Prelude.{◌%◌, ◌*◌, ◌+◌, ◌++◌, ◌-◌, ◌/◌, ◌<◌, List, List·getD-append, [], ◌^◌, add-one, append-nil, append_snoc, arith, dec_lt, get_or, le-ltb, le_refl, length, length-append, lt-ltb, map, mul_assoc, not-suc-le-zero, pow-suc, refl, suc, sym, zero, ℕ, ◌∙◌, ◌∷◌, ◌≡◌, ◌≢◌, ◌≤◌}
+use Rattle.std.specs.Prelude.{◌%◌, ◌*◌, ◌+◌, ◌++◌, ◌-◌, ◌/◌, ◌<◌, ◌^◌, ◌∷◌, ◌≡◌, ◌≢◌, ◌≤◌}
+use Rattle.decimal.specs.Prelude.{List, List·getD-append, [], add-one, append-nil, append_snoc, arith, dec_lt, get_or, le-ltb, le_refl, length, length-append, lt-ltb, map, mul_assoc, not-suc-le-zero, pow-suc, refl, suc, sym, zero, ℕ, ◌∙◌}
 use Rattle.decimal.specs.Text.{digits, text, value, Digit, Digits, Canonical}
 
 -- ---- Text, digit by digit

@@ -1,5 +1,6 @@
 -- What a verdict tells.
-use Rattle.decision.specs.Prelude.{Event, Moment, Outcome, Seen, ◌∙◌, ◌≡◌, about, acceptance_tells, ap, applies_to, calling, case, cases_positive, clear, fine, job_of, moment_of, not-false, outcome, refusals_of, set_of, sym, tick_of, true, ℕ}
+use Rattle.std.specs.Prelude.{◌≡◌}
+use Rattle.decision.specs.Prelude.{Event, Moment, Outcome, Seen, ◌∙◌, about, acceptance_tells, ap, applies_to, calling, case, cases_positive, clear, fine, job_of, moment_of, not-false, outcome, refusals_of, set_of, sym, tick_of, true, ℕ}
 use Rattle.decision.specs.Changes.{refusal_cases}
 
 -- a verdict that turned out to be w says what v says

@@ -1,5 +1,6 @@
 -- The promises determine what is handed back, and what is left in lent memory.
-use Rattle.desk.specs.Prelude.{List, Shown, ◌≡◌, answer_by, determined, shown_said, shown_of, told_apart, ℕ}
+use Rattle.std.specs.Prelude.{◌≡◌}
+use Rattle.desk.specs.Prelude.{List, Shown, answer_by, determined, shown_said, shown_of, told_apart, ℕ}
 use Rattle.page.specs.declared.Shown.TheVariants as shown
 use Rattle.desk.specs.Promises.{Shows}
 

@@ -12,7 +12,7 @@ pub use Rattle.event.specs.Refusals.{number_of}
 pub use Rattle.event.specs.declared.refusal.Refusal.{Refusal}
 pub use Rattle.decision.specs.declared.answer.Answer.{Answer}
 pub use Rattle.decision.specs.declared.answer.Answer.TheVariants.{Done, Granted, No, Token, Wait, Woke}
-pub use Rattle.arbiter.specs.Answers.{Said, said_of, saysDone}
+pub use Rattle.arbiter.specs.Answers.{Said, said_of, says_done}
 pub use Rattle.arbiter.specs.Meaning.{no_table}
 pub use Rattle.arbiter.specs.declared.table.Next.{Next}
 pub use Rattle.arbiter.specs.declared.table.Table.{Table}
@@ -23,7 +23,7 @@ unfoldable pub use Rattle.loading.specs.Meaning.{load_answer, load_table}
 pub use Rattle.loading.specs.Promises.{Loaded}
 pub use Rattle.page.specs.Determined.{shown_said}
 pub use Rattle.page.specs.Meaning.{shown_of}
-unfoldable pub use Rattle.page.specs.Meaning.{page_answer, room_after as roomWithPage}
+unfoldable pub use Rattle.page.specs.Meaning.{page_answer, room_after as room_with_page}
 pub use Rattle.page.specs.Page.{page, page_room}
 pub use Rattle.page.specs.Promises.{PutPage}
 pub use Rattle.page.specs.declared.Shown.{Shown}

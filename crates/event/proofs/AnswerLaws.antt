@@ -1,5 +1,6 @@
 -- What the clock and the table of kinds promise determines their answers.
-use Rattle.event.specs.Prelude.{Kind, Known, Moment, Option, Outcome, ap, none, refl, some, told_apart, ℕ, ◌≡◌}
+use Rattle.std.specs.Prelude.{◌≡◌}
+use Rattle.event.specs.Prelude.{Kind, Known, Moment, Option, Outcome, ap, none, refl, some, told_apart, ℕ}
 use Rattle.event.specs.Answers.{answer_by}
 use Rattle.event.specs.Clock.{moment_of}
 use Rattle.event.proofs.RefusalLaws.{refusal_of_number_of}

@@ -1,5 +1,6 @@
 -- True time is real time at each of many ticks.
-use Rattle.event.specs.Prelude.{List, ap, fine, map, refl, ℕ, ◌∷◌, ◌≡◌}
+use Rattle.std.specs.Prelude.{◌∷◌, ◌≡◌}
+use Rattle.event.specs.Prelude.{List, ap, fine, map, refl, ℕ}
 use Rattle.event.specs.ClockLaws.{forward_real}
 use Rattle.event.specs.Clock.{forwards, shown, Often, ended, then}
 

@@ -1,5 +1,6 @@
 -- No two refusals share a number, and what the cases of named refusals tell.
-use Rattle.event.specs.Prelude.{◌<◌, AlreadyHeld, AlreadyLive, BadStart, BitSet, Bool, ClockGoneBack, ClockLeap, EmptySet, List, NoSuchJob, NoSuchResource, NoToken, NotDeclared, NotHeld, NotLive, Refusal, ShortList, StartOutOfPlace, StillWaiting, TimeSpent, TurnsSpent, UnknownKind, UnknownVersion, UnsoundTable, WrongLength, WrongSize, [], ap, arith, cond, eqb, eqb-true, false, false≢true, first, lt-ltb, positive, refl, suc, sym, true, zero, ◌||◌, ℕ, ◌∙◌, ◌∷◌, ◌≡◌}
+use Rattle.std.specs.Prelude.{◌<◌, ◌||◌, ◌∷◌, ◌≡◌}
+use Rattle.event.specs.Prelude.{AlreadyHeld, AlreadyLive, BadStart, BitSet, Bool, ClockGoneBack, ClockLeap, EmptySet, List, NoSuchJob, NoSuchResource, NoToken, NotDeclared, NotHeld, NotLive, Refusal, ShortList, StartOutOfPlace, StillWaiting, TimeSpent, TurnsSpent, UnknownKind, UnknownVersion, UnsoundTable, WrongLength, WrongSize, [], ap, arith, cond, eqb, eqb-true, false, false≢true, first, lt-ltb, positive, refl, suc, sym, true, zero, ℕ, ◌∙◌}
 use Rattle.event.specs.RefusalLaws.{refusal_of, refusals}
 use Rattle.event.specs.Refusals.{among, cases_by, number_of}
 

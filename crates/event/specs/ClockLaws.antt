@@ -1,5 +1,6 @@
 -- True time is real time, wraps and all.
-use Rattle.event.specs.Prelude.{◌%◌, ◌+◌, ◌<◌, ◌^◌, acceptance_tells, ap, arith, case, clear, fine, le-ltb, lt-leb, ltb-false, outcome_is, past, refl, sym, ℕ, ◌∙◌, ◌≡◌, ◌≤◌}
+use Rattle.std.specs.Prelude.{◌%◌, ◌+◌, ◌<◌, ◌^◌, ◌≡◌, ◌≤◌}
+use Rattle.event.specs.Prelude.{acceptance_tells, ap, arith, case, clear, fine, le-ltb, lt-leb, ltb-false, outcome_is, past, refl, sym, ℕ, ◌∙◌}
 use Rattle.laws.specs.Chains.{none}
 use Rattle.event.specs.Limits.{highest}
 use Rattle.event.specs.Clock.{difference, hour, clock_cases, forward, shown}

@@ -1,5 +1,6 @@
 -- The refusal that a number names.
-use Rattle.event.specs.Prelude.{◌-◌, List, [], ◌∷◌, get_or, ℕ, AlreadyHeld, AlreadyLive, BadStart, BitSet, ClockGoneBack, ClockLeap, EmptySet, NoSuchJob, NoSuchResource, NoToken, NotDeclared, NotHeld, NotLive, Refusal, ShortList, StartOutOfPlace, StillWaiting, TimeSpent, TurnsSpent, UnknownKind, UnknownVersion, UnsoundTable, WrongLength, WrongSize}
+use Rattle.std.specs.Prelude.{◌-◌, ◌∷◌}
+use Rattle.event.specs.Prelude.{List, [], get_or, ℕ, AlreadyHeld, AlreadyLive, BadStart, BitSet, ClockGoneBack, ClockLeap, EmptySet, NoSuchJob, NoSuchResource, NoToken, NotDeclared, NotHeld, NotLive, Refusal, ShortList, StartOutOfPlace, StillWaiting, TimeSpent, TurnsSpent, UnknownKind, UnknownVersion, UnsoundTable, WrongLength, WrongSize}
 
 -- the refusals in the order of their numbers
 unfoldable pub refusals : List Refusal

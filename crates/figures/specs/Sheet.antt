@@ -1,5 +1,6 @@
 -- The sheet on which figures are kept.
-use Rattle.figures.specs.Prelude.{List, ◌*◌, ◌+◌, ◌-◌, ◌^◌, cond, eqb, get_or, jobs, ltb, set, ℕ}
+use Rattle.std.specs.Prelude.{◌*◌, ◌+◌, ◌-◌, ◌^◌}
+use Rattle.figures.specs.Prelude.{List, cond, eqb, get_or, jobs, ltb, set, ℕ}
 
 -- how many columns it has
 abbrev pub columns : ℕ

@@ -1,5 +1,6 @@
 -- Laws of the sheet.
-use Rattle.figures.specs.Prelude.{List, ◌≡◌, ◌≢◌, eq-eqb, get_or, ne_eqb, set, ℕ}
+use Rattle.std.specs.Prelude.{◌≡◌, ◌≢◌}
+use Rattle.figures.specs.Prelude.{List, eq-eqb, get_or, ne_eqb, set, ℕ}
 use Rattle.figures.specs.Sheet.{first_late, place_of}
 
 -- a first record is put down where none is known

@@ -1,5 +1,6 @@
 -- What is promised determines what is handed back, and what is left in what was lent.
-use Rattle.hindering.specs.Prelude.{List, Table, ◌≡◌, answer_by, ap, determined, refl, refusal_of_number_of, told_apart, ℕ}
+use Rattle.std.specs.Prelude.{◌≡◌}
+use Rattle.hindering.specs.Prelude.{List, Table, answer_by, ap, determined, refl, refusal_of_number_of, told_apart, ℕ}
 use Rattle.hindering.specs.Hindering.{found_of}
 use Rattle.hindering.specs.Promises.{Hinders}
 use Rattle.hindering.specs.declared.Found.{Found}

@@ -1,5 +1,6 @@
 -- Those in the way are as many as are counted, and there is one exactly where Q3 forbids the set.
-use Rattle.hindering.specs.Prelude.{List, Row, ◌∙◌, ◌≡◌, ap, blocked, claims_ahead, count_and_true, count_every, count_keep, in_way_line, in_way, keep, length, line, ltb, sym, true, ℕ}
+use Rattle.std.specs.Prelude.{◌≡◌}
+use Rattle.hindering.specs.Prelude.{List, Row, ◌∙◌, ap, blocked, claims_ahead, count_and_true, count_every, count_keep, in_way_line, in_way, keep, length, line, ltb, sym, true, ℕ}
 use Rattle.hindering.specs.Hindering.{claimants_before}
 
 -- as many are listed as are in the way

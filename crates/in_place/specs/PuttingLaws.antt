@@ -1,5 +1,6 @@
 -- What is written in place is what the event means.
-use Rattle.in_place.specs.Prelude.{Answered, Bool, Change, EventAnswer, Event, List, Refusal, Table, ◌∙◌, ◌≡◌, about, answer_in_numbers, ap, change_on, changes_answer, cond, false, fine, has_row, job_of, jobs, moved, number_of, outcome, quiet_cases, refl, refusal_cases, refused, refused_answers, said_of, seen_in, set, sym, true, true≢false, ℕ, Case}
+use Rattle.std.specs.Prelude.{◌≡◌}
+use Rattle.in_place.specs.Prelude.{Answered, Bool, Change, EventAnswer, Event, List, Refusal, Table, ◌∙◌, about, answer_in_numbers, ap, change_on, changes_answer, cond, false, fine, has_row, job_of, jobs, moved, number_of, outcome, quiet_cases, refl, refusal_cases, refused, refused_answers, said_of, seen_in, set, sym, true, true≢false, ℕ, Case}
 use Rattle.decision.specs.declared.answer.Answer.TheVariants as Answers
 use Rattle.in_place.specs.Putting.{Puts, Rests}
 use Rattle.in_place.specs.declared.putting.Put.{Put}

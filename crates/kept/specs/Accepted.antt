@@ -1,5 +1,6 @@
 -- What is known of an accepted event: no case applies, the table was sound, and whoever acts may act.
-use Rattle.kept.specs.Prelude.{◌++◌, ◌<◌, Bool, Case, List, Open, Refusal, Role, Table, Tick, [], about, accepted, actor, and_left, and_right, answer, applies, arith, refusals_of, calling, case, cases, cases_positive, cases_by, clear, cond, eqb, eqb-true, false, false≢true, fine, first, has_job, job_of, jobs, le-ltb, le_of_eq, le-zero, leaves, leb-false, list_cases, ltb-false, ltb-true, names, next, nobody, not, not-false, opener, outcome, positive, refl, row_in, said, set_of, sound, subst, sym, tick_of, true, waiting, waiting_reads, ℕ, ◌∙◌, ◌≡◌}
+use Rattle.std.specs.Prelude.{◌++◌, ◌<◌, ◌≡◌}
+use Rattle.kept.specs.Prelude.{Bool, Case, List, Open, Refusal, Role, Table, Tick, [], about, accepted, actor, and_left, and_right, answer, applies, arith, refusals_of, calling, case, cases, cases_positive, cases_by, clear, cond, eqb, eqb-true, false, false≢true, fine, first, has_job, job_of, jobs, le-ltb, le_of_eq, le-zero, leaves, leb-false, list_cases, ltb-false, ltb-true, names, next, nobody, not, not-false, opener, outcome, positive, refl, row_in, said, set_of, sound, subst, sym, tick_of, true, waiting, waiting_reads, ℕ, ◌∙◌}
 use Rattle.event.specs.declared.events.Event.{Event}
 use Rattle.kept.specs.Sound.Words.{SoundTable}
 use Rattle.kept.specs.Sound.Tests.{table_sound}

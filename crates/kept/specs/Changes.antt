@@ -1,6 +1,7 @@
 -- What an accepted event does to the turns and declared sets of the rows, said once for each event, and what follows for every
 -- count.
-use Rattle.kept.specs.Prelude.{Ask, Beat, Bool, Complete, GiveUp, List, Open, Release, Row, Table, ◌&&◌, ◌+◌, ◌<◌, ◌∙◌, ◌≡◌, ◌≤◌, about, accepted, ahead, and-eq-true_iff, and-not_self, ap, arith, blocked, claims, cond, count, dec_le, earlier, either, eq-eqb, false, false≢true, get_or-set_other, get_or-set_same, giving_up, gone, gone_balance, gone_none, has_job, idle, in_way, job_of, length, length-set, length_settled, live_within, ltb, meets, meets_without, names, not, not_earlier, opened_row, opening_of, refl, row_settled, row_after, row_in, row_of, rows_with, set, set_out, set_of, settled, subst, swept_idle, swept_keeps, swept_row, sym, tick_of, time_at, true, true≢false, without, ℕ, ℕ_discrete}
+use Rattle.std.specs.Prelude.{◌&&◌, ◌+◌, ◌<◌, ◌≡◌, ◌≤◌}
+use Rattle.kept.specs.Prelude.{Ask, Beat, Bool, Complete, GiveUp, List, Open, Release, Row, Table, ◌∙◌, about, accepted, ahead, and-eq-true_iff, and-not_self, ap, arith, blocked, claims, cond, count, dec_le, earlier, either, eq-eqb, false, false≢true, get_or-set_other, get_or-set_same, giving_up, gone, gone_balance, gone_none, has_job, idle, in_way, job_of, length, length-set, length_settled, live_within, ltb, meets, meets_without, names, not, not_earlier, opened_row, opening_of, refl, row_settled, row_after, row_in, row_of, rows_with, set, set_out, set_of, settled, subst, swept_idle, swept_keeps, swept_row, sym, tick_of, time_at, true, true≢false, without, ℕ, ℕ_discrete}
 use Rattle.event.specs.declared.events.Event.{Event}
 use Rattle.kept.specs.Accepted.{acts, open_idle}
 use Rattle.kept.specs.Words.{Accepts, Acts, Alike, ByOpening, Change, Clearer, Lower, began, ended, gave, kept}

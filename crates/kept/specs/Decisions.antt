@@ -1,5 +1,6 @@
 -- What Q3 decides on a set, at an ask and in a sweep: the whole of it or nothing.
-use Rattle.kept.specs.Prelude.{Bool, List, Row, Table, ◌∙◌, ◌≡◌, ap, arith, asked_row, blocked, cond, either, false, granted_row, in_way, le-ltb, le_of_eq, le-zero, lt-ltb, ltb-false, ltb-true, refl, rested_row, swept_row, sym, true, true≢false, union, union_empty, waiting, ℕ}
+use Rattle.std.specs.Prelude.{◌≡◌}
+use Rattle.kept.specs.Prelude.{Bool, List, Row, Table, ◌∙◌, ap, arith, asked_row, blocked, cond, either, false, granted_row, in_way, le-ltb, le_of_eq, le-zero, lt-ltb, ltb-false, ltb-true, refl, rested_row, swept_row, sym, true, true≢false, union, union_empty, waiting, ℕ}
 use Rattle.kept.specs.Words.{Decided, grants, waits, Asked, Swept}
 
 -- ---- The decision

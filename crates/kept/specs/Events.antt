@@ -1,5 +1,6 @@
 -- Every accepted event leaves a sound table.
-use Rattle.kept.specs.Prelude.{Ask, Beat, Bool, Complete, GiveUp, List, Open, Release, Row, Table, Tick, ◌+◌, ◌-◌, ◌<◌, ◌^◌, ◌∙◌, ◌≡◌, ◌≢◌, ◌≤◌, accepted, ahead, ap, arith, asked_row, at_set, below, case, cond, dec_le, distinct_rows, distinct_set, distinct_settled, distinct_test, eqb-false, false, giving_up, idle, in_way_empty, inside, inside_empty, inside_refl, inside_trans, inside_without, le_refl, length, live_within, lt_irrefl, lt-ltb, ltb-false, meets, meets_comm, meets_empty, moved, not-false, opened_row, refl, releasing, row_settled, row_in, set, set_out, settled, swept_idle, swept_row, sym, time_at, token, true, waiting, waiting_reads, without, without_inside, ℕ}
+use Rattle.std.specs.Prelude.{◌+◌, ◌-◌, ◌<◌, ◌^◌, ◌≡◌, ◌≢◌, ◌≤◌}
+use Rattle.kept.specs.Prelude.{Ask, Beat, Bool, Complete, GiveUp, List, Open, Release, Row, Table, Tick, ◌∙◌, accepted, ahead, ap, arith, asked_row, at_set, below, case, cond, dec_le, distinct_rows, distinct_set, distinct_settled, distinct_test, eqb-false, false, giving_up, idle, in_way_empty, inside, inside_empty, inside_refl, inside_trans, inside_without, le_refl, length, live_within, lt_irrefl, lt-ltb, ltb-false, meets, meets_comm, meets_empty, moved, not-false, opened_row, refl, releasing, row_settled, row_in, set, set_out, settled, swept_idle, swept_row, sym, time_at, token, true, waiting, waiting_reads, without, without_inside, ℕ}
 use Rattle.event.specs.declared.events.Event.{Event}
 use Rattle.kept.specs.Words.{Accepts, Acts, Asked, Decided, Swept, grants, waits, Alike, Clearer, NoEarlier}
 use Rattle.kept.specs.Accepted.{acts, open_idle, passed, was_sound}

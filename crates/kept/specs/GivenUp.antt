@@ -1,5 +1,6 @@
 -- What a give up leaves, and what is left to a request that has given up all, by name.
-use Rattle.kept.specs.Prelude.{Ask, GiveUp, Open, Release, Row, Table, Tick, ◌<◌, ◌∙◌, ◌≡◌, ◌≤◌, acceptance_tells, accepted, ahead, and-false, ap, arith, case, claims, clock_cases, earlier, eqb-false, false, first_back, first_is, forward, get_or-set_same, giving_up, idle, inside_le, jobs, le-ltb, live, live_within, lt-leb, lt-ltb, ltb-true, meets_comm, meets_empty, next, none, not, not-false, past, refl, row_settled, row_in, rows_with, sound, swept_row, sym, time_at, true, true≢false, ℕ}
+use Rattle.std.specs.Prelude.{◌<◌, ◌≡◌, ◌≤◌}
+use Rattle.kept.specs.Prelude.{Ask, GiveUp, Open, Release, Row, Table, Tick, ◌∙◌, acceptance_tells, accepted, ahead, and-false, ap, arith, case, claims, clock_cases, earlier, eqb-false, false, first_back, first_is, forward, get_or-set_same, giving_up, idle, inside_le, jobs, le-ltb, live, live_within, lt-leb, lt-ltb, ltb-true, meets_comm, meets_empty, next, none, not, not-false, past, refl, row_settled, row_in, rows_with, sound, swept_row, sym, time_at, true, true≢false, ℕ}
 use Rattle.event.specs.declared.events.Event.{Event}
 use Rattle.kept.specs.Words.{Accepts, Acts, OnlyCompletes}
 use Rattle.kept.specs.Accepted.{acts, next_accepted, passed, was_sound}

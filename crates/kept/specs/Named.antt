@@ -1,5 +1,6 @@
 -- What accepted events do and never do, by name.
-use Rattle.kept.specs.Prelude.{◌+◌, ◌<◌, Ask, Bool, InTheWay, Open, Release, Row, Table, Tick, acceptance_tells, accepted, and-false, answer, ap, arith, asked_row, blocked, case, cases, cond, false, fine, get_or-set_same, idle, in_way_at, in_way, inside, inside_reads, inside_trans, jobs, length, live_within, lt-ltb, ltb-true, meets_reads, member, member_without, next, not, not-false, opened_row, refl, releasing, row_in, said, time_at, token, true, without, ℕ, ◌∙◌, ◌≡◌}
+use Rattle.std.specs.Prelude.{◌+◌, ◌<◌, ◌≡◌}
+use Rattle.kept.specs.Prelude.{Ask, Bool, InTheWay, Open, Release, Row, Table, Tick, acceptance_tells, accepted, and-false, answer, ap, arith, asked_row, blocked, case, cases, cond, false, fine, get_or-set_same, idle, in_way_at, in_way, inside, inside_reads, inside_trans, jobs, length, live_within, lt-ltb, ltb-true, meets_reads, member, member_without, next, not, not-false, opened_row, refl, releasing, row_in, said, time_at, token, true, without, ℕ, ◌∙◌}
 use Rattle.event.specs.declared.events.Event.{Event}
 use Rattle.arbiter.specs.Answers as Answers
 use Rattle.kept.specs.Words.{Accepts, Asked, Decided, grants, waits}
@@ -29,7 +30,7 @@ module _ (n : ℕ) (t : Table) (j : ℕ) (tick : Tick) (s : ℕ) (ok : Accepts n
   -- a resource that an older live request still declares is not handed out, free or not: the ask waits, and nothing more is held
   pub older_goes_first :
       InTheWay t.rows (row_in t j).turn.0 s →
-      (answer n t (Ask j tick s) ≡ fine Answers.saysWait) × ((row_in (next n t (Ask j tick s)) j).held ≡ (row_in t j).held)
+      (answer n t (Ask j tick s) ≡ fine Answers.says_wait) × ((row_in (next n t (Ask j tick s)) j).held ≡ (row_in t j).held)
   older_goes_first w =
       let way = in_way_at t.rows (row_in t j).turn.0 s w in
       (rw (answer_accepted n t (Ask j tick s) ok, lt-ltb 0 (in_way t.rows (row_in t j).turn.0 s) way) refl, held ask_whole)
@@ -42,31 +43,31 @@ module _ (n : ℕ) (t : Table) (j : ℕ) (tick : Tick) (s : ℕ) (ok : Accepts n
 
 -- an open that says "wait" waits from the true time after its own tick
 pub open_waits_from_now :
-    (n : ℕ) (t : Table) (j : ℕ) (tick : Tick) (s : ℕ) → length t.rows ≡ jobs → answer n t (Open j tick s) ≡ fine Answers.saysWait →
+    (n : ℕ) (t : Table) (j : ℕ) (tick : Tick) (s : ℕ) → length t.rows ≡ jobs → answer n t (Open j tick s) ≡ fine Answers.says_wait →
     (row_in (next n t (Open j tick s)) j).since ≡ (next n t (Open j tick s)).time
 unfolding answer
 open_waits_from_now n t j tick s full e =
-    let said = acceptance_tells {B = ℕ} (cases n t (Open j tick s)) (said t (Open j tick s)) Answers.saysWait e in
+    let said = acceptance_tells {B = ℕ} (cases n t (Open j tick s)) (said t (Open j tick s)) Answers.says_wait e in
     let within = open_below n t j tick s said.0 in
     rw (next_accepted n t (Open j tick s) said.0, get_or-set_same t.rows j (opened_row t (time_at t tick.0) s) idle (omega arith))
     (rw (go (token t.tokens t.rows (t.last.0 + 1)) said.1))
   where
-    go : (b : Bool) → cond b Answers.saysToken Answers.saysWait ≡ Answers.saysWait → b ≡ false
+    go : (b : Bool) → cond b Answers.says_token Answers.says_wait ≡ Answers.says_wait → b ≡ false
     go true f = let z : ◌≡◌ {A = ℕ} 0 1 = cc in absurd (omega arith)
     go false f = refl
 
 -- so does an ask
 pub ask_waits_from_now :
-    (n : ℕ) (t : Table) (j : ℕ) (tick : Tick) (s : ℕ) → answer n t (Ask j tick s) ≡ fine Answers.saysWait →
+    (n : ℕ) (t : Table) (j : ℕ) (tick : Tick) (s : ℕ) → answer n t (Ask j tick s) ≡ fine Answers.says_wait →
     (row_in (next n t (Ask j tick s)) j).since ≡ (next n t (Ask j tick s)).time
 unfolding answer
 ask_waits_from_now n t j tick s e =
-    let said = acceptance_tells {B = ℕ} (cases n t (Ask j tick s)) (said t (Ask j tick s)) Answers.saysWait e in
+    let said = acceptance_tells {B = ℕ} (cases n t (Ask j tick s)) (said t (Ask j tick s)) Answers.says_wait e in
     rw (next_accepted n t (Ask j tick s) said.0)
     ((asked n t j tick s said.0).waits_now (go (blocked t.rows (row_in t j).turn.0 s) refl said.1))
   where
     go :
-        (b : Bool) → blocked t.rows (row_in t j).turn.0 s ≡ b → cond b Answers.saysWait Answers.saysGranted ≡ Answers.saysWait →
+        (b : Bool) → blocked t.rows (row_in t j).turn.0 s ≡ b → cond b Answers.says_wait Answers.says_granted ≡ Answers.says_wait →
         0 < in_way t.rows (row_in t j).turn.0 s
     go true f e = ltb-true 0 (in_way t.rows (row_in t j).turn.0 s) f
     go false f e = let z : ◌≡◌ {A = ℕ} 0 1 = cc in absurd (omega arith)

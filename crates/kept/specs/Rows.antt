@@ -1,5 +1,6 @@
 -- When a row stays sound, though the table around it moves on.
-use Rattle.kept.specs.Prelude.{Bool, List, Row, Table, ◌&&◌, ◌<◌, ◌||◌, ◌∙◌, ◌≡◌, ◌≤◌, ahead, ahead_set, ahead_settled, ap, arith, below, bit, claims, dec_le, earlier, false, idle, in_way_inside, in_way_set, in_way_settled, in_way_union, inside, inside_empty, inside_le, inside_union, le_of_eq, length, live, lt-ltb, ltb, ltb-true, meets, meets_empty, meets_inside, not, not_earlier, refl, row_of, set, set_out, settled, sym, true, union_self, waiting, ℕ}
+use Rattle.std.specs.Prelude.{◌&&◌, ◌<◌, ◌||◌, ◌≡◌, ◌≤◌}
+use Rattle.kept.specs.Prelude.{Bool, List, Row, Table, ◌∙◌, ahead, ahead_set, ahead_settled, ap, arith, below, bit, claims, dec_le, earlier, false, idle, in_way_inside, in_way_set, in_way_settled, in_way_union, inside, inside_empty, inside_le, inside_union, le_of_eq, length, live, lt-ltb, ltb, ltb-true, meets, meets_empty, meets_inside, not, not_earlier, refl, row_of, set, set_out, settled, sym, true, union_self, waiting, ℕ}
 use Rattle.kept.specs.Words.{Decided, grants, waits, Alike, NoEarlier, Clearer}
 use Rattle.kept.specs.Sound.Words.{LiveRow}
 

@@ -1,5 +1,6 @@
 -- Soundness is kept: events leave a sound table sound, a fresh table is sound, and none that is sound is refused as 3.
-use Rattle.kept.specs.Prelude.{◌++◌, ◌<◌, Bool, Call, Case, List, NoSuchJob, NotLive, Refusal, Row, ShortList, Table, UnsoundTable, [], ◌^◌, about, acceptance_tells, accepted, answer, ap, applies, arith, refusals_of, calling, case, cases, cases_by, clear, clock_refusals, cond, course, false, fine, first, first_named, fresh_table, holds, idle, job_of, jobs, keep_unless, late, leaves, length, list_cases, ltb, next, no_table, not, not-false, outcome, overdue, ranges, refl, refusal_tells, refused, refusing, replicate, report, reported, row_in, row_of, run, said, set_of, sound, start_answer, start_cases, start_table, suc, sym, tick_of, true, true≢false, zero, ℕ, ◌∙◌, ◌∷◌, ◌≡◌}
+use Rattle.std.specs.Prelude.{◌++◌, ◌<◌, ◌^◌, ◌∷◌, ◌≡◌}
+use Rattle.kept.specs.Prelude.{Bool, Call, Case, List, NoSuchJob, NotLive, Refusal, Row, ShortList, Table, UnsoundTable, [], about, acceptance_tells, accepted, answer, ap, applies, arith, refusals_of, calling, case, cases, cases_by, clear, clock_refusals, cond, course, false, fine, first, first_named, fresh_table, holds, idle, job_of, jobs, keep_unless, late, leaves, length, list_cases, ltb, next, no_table, not, not-false, outcome, overdue, ranges, refl, refusal_tells, refused, refusing, replicate, report, reported, row_in, row_of, run, said, set_of, sound, start_answer, start_cases, start_table, suc, sym, tick_of, true, true≢false, zero, ℕ, ◌∙◌}
 use Rattle.event.specs.declared.events.Event.{Event}
 use Rattle.arbiter.specs.Answers as Answers
 use Rattle.kept.specs.Words.{Accepts, NeverUnsound}
@@ -52,10 +53,10 @@ fresh_sound T R tick limit e h =
     })
 
 -- an accepted start has numbers in range, and gives a fresh table
-module _ (T R limit : ℕ) (started : start_answer T R limit ≡ fine Answers.saysDone) where
+module _ (T R limit : ℕ) (started : start_answer T R limit ≡ fine Answers.says_done) where
   unrefused : first (start_cases T R limit) ≡ 0
   unfolding start_answer
-  unrefused = (acceptance_tells {B = ℕ} (start_cases T R limit) Answers.saysDone Answers.saysDone started).0
+  unrefused = (acceptance_tells {B = ℕ} (start_cases T R limit) Answers.says_done Answers.says_done started).0
 
   pub start_ranges : holds (ranges T R limit) ≡ true
   unfolding case

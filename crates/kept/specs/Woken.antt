@@ -1,5 +1,6 @@
 -- Whom an accepted event wakes, and what becomes of a wait.
-use Rattle.kept.specs.Prelude.{◌&&◌, ◌<◌, Bool, Each, List, List-as-Memᴰ, List·Memᴰ·cases-cons, List·Memᴰ·not-nil, Release, Row, Table, Tick, [], about, accepted, and-not_self, and_right, ap, arith, cond, dec_lt, each_head, each_tail, eqb, eqb-false, false, false≢true, get_or, get_or-set_other, has_job, idle, inl, inr, job_of, keep, line, names, next, not, not-true, refl, row_settled, row_after, row_in, row_of, rows_with, set, settled, subst, swept_row, sym, tick_of, time_at, true, true≢false, waiting, waiting_reads, wakes, woken, ℕ, ◌∙◌, ◌∷◌, ◌≡◌, ◌≤◌, ◌⊎◌}
+use Rattle.std.specs.Prelude.{◌&&◌, ◌<◌, ◌∷◌, ◌≡◌, ◌≤◌, ◌⊎◌}
+use Rattle.kept.specs.Prelude.{Bool, Each, List, List-as-Memᴰ, List·Memᴰ·cases-cons, List·Memᴰ·not-nil, Release, Row, Table, Tick, [], about, accepted, and-not_self, and_right, ap, arith, cond, dec_lt, each_head, each_tail, eqb, eqb-false, false, false≢true, get_or, get_or-set_other, has_job, idle, inl, inr, job_of, keep, line, names, next, not, not-true, refl, row_settled, row_after, row_in, row_of, rows_with, set, settled, subst, swept_row, sym, tick_of, time_at, true, true≢false, waiting, waiting_reads, wakes, woken, ℕ, ◌∙◌}
 use Rattle.event.specs.declared.events.Event.{Event}
 use Rattle.kept.specs.Words.{Accepts, Decided, Swept, waits, Alike, Fate, same, acted, stayed}
 use Rattle.kept.specs.Accepted.{named_rests, next_accepted, next_tokens, was_sound}

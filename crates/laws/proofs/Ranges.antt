@@ -1,5 +1,6 @@
 -- Ranges of sets that code computes.
-use Rattle.laws.specs.Prelude.{◌<◌, ◌^◌, and_le_l, lt-ltb, lt_of_lt_of_le, pow_mono, true, ℕ, ◌≡◌, ◌≤◌}
+use Rattle.std.specs.Prelude.{◌<◌, ◌^◌, ◌≡◌, ◌≤◌}
+use Rattle.laws.specs.Prelude.{and_le_l, lt-ltb, lt_of_lt_of_le, pow_mono, true, ℕ}
 use Rattle.laws.specs.Sets.{meet, below}
 
 pub meet_le : (s t : ℕ) → meet s t ≤ s

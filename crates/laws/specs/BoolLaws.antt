@@ -1,5 +1,6 @@
 -- Laws of truth values: as numbers, in conjunctions, in choices.
-use Rattle.laws.specs.Prelude.{◌&&◌, Bool, and_comm, ap, arith, cond, false, le-leb, leb, lt-leb, ltb, ltb-false, ltb-true, not, refl, sym, true, true≢false, ◌||◌, ℕ, ◌∙◌, ◌≡◌, ◌≤◌}
+use Rattle.std.specs.Prelude.{◌&&◌, ◌||◌, ◌≡◌, ◌≤◌}
+use Rattle.laws.specs.Prelude.{Bool, and_comm, ap, arith, cond, false, le-leb, leb, lt-leb, ltb, ltb-false, ltb-true, not, refl, sym, true, true≢false, ℕ, ◌∙◌}
 use Rattle.laws.specs.Bools.{bit, implies}
 
 pub bit_le : (b : Bool) → bit b ≤ 1

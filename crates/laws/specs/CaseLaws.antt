@@ -1,5 +1,6 @@
 -- Laws of numbered cases: the first that applies, and what an answer tells.
-use Rattle.laws.specs.Prelude.{◌++◌, ◌<◌, Bool, List, [], ap, arith, cond, eq-eqb, eqb, eqb-true, false, false≢true, lt_irrefl, ltb, ltb-true, ne_eqb, refl, suc, true, zero, ℕ, ◌∙◌, ◌∷◌, ◌≡◌, ◌≤◌}
+use Rattle.std.specs.Prelude.{◌++◌, ◌<◌, ◌∷◌, ◌≡◌, ◌≤◌}
+use Rattle.laws.specs.Prelude.{Bool, List, [], ap, arith, cond, eq-eqb, eqb, eqb-true, false, false≢true, lt_irrefl, ltb, ltb-true, ne_eqb, refl, suc, true, zero, ℕ, ◌∙◌}
 use Rattle.laws.specs.BoolLaws.{and_left, and_right}
 use Rattle.laws.specs.Cases.{Case, when, first, place_in, ascends, case, Outcome, refused, fine, unless, outcome, keep_unless, leaves, positive}
 use Rattle.laws.specs.Chains.{First, none, this, past}

@@ -1,5 +1,6 @@
 -- What counts say of single elements, and how they compare. An element past the end reads as the default d.
-use Rattle.laws.specs.Prelude.{◌&&◌, ◌+◌, ◌<◌, Bool, List, [], and-true, ap, arith, false, false≢true, fun_ext, get_or, le_antisymm, length, lt_irrefl, refl, suc, sym, true, zero, zero-add, ℕ, ◌∙◌, ◌∷◌, ◌≡◌, ◌≤◌}
+use Rattle.std.specs.Prelude.{◌&&◌, ◌+◌, ◌<◌, ◌∷◌, ◌≡◌, ◌≤◌}
+use Rattle.laws.specs.Prelude.{Bool, List, [], and-true, ap, arith, false, false≢true, fun_ext, get_or, le_antisymm, length, lt_irrefl, refl, suc, sym, true, zero, zero-add, ℕ, ◌∙◌}
 use Rattle.laws.specs.Bools.{bit}
 use Rattle.laws.specs.BoolLaws.{and_left, and_right}
 use Rattle.laws.specs.Lists.{all, count}

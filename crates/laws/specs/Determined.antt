@@ -1,5 +1,6 @@
 -- What a promise says determines what is answered: what two calls that keep it hand back is the same.
-use Rattle.laws.specs.Prelude.{ap, sym, ◌∙◌, ◌≡◌}
+use Rattle.std.specs.Prelude.{◌≡◌}
+use Rattle.laws.specs.Prelude.{ap, sym, ◌∙◌}
 
 -- a promise that the result equals a definition determines it, whatever the definition
 pub determined : {A : Type 0} {x r r' : A} → r ≡ x → r' ≡ x → r ≡ r'

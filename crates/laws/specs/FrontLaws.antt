@@ -1,5 +1,6 @@
 -- Laws of the front of a list, and of lists with a part written over.
-use Rattle.laws.specs.Prelude.{◌+◌, ◌++◌, ◌-◌, ◌<◌, List, [], add_assoc, add-one, add-zero, ap, append_assoc, append-nil, append_snoc, arith, dec_le, drop, drop-append-add, drop-append-le, drop_at, drop-drop, drop-length, drop_of_length-le, length, length-append, length-drop, length-take-le, min, refl, set, set_split, suc, sym, take, take_all, take-append-add, take-append-drop, take-append-le, take_at, take-length, take-set-le, zero-add, ℕ, ◌∙◌, ◌∷◌, ◌≡◌, ◌≤◌}
+use Rattle.std.specs.Prelude.{◌+◌, ◌++◌, ◌-◌, ◌<◌, ◌∷◌, ◌≡◌, ◌≤◌}
+use Rattle.laws.specs.Prelude.{List, [], add_assoc, add-one, add-zero, ap, append_assoc, append-nil, append_snoc, arith, dec_le, drop, drop-append-add, drop-append-le, drop_at, drop-drop, drop-length, drop_of_length-le, length, length-append, length-drop, length-take-le, min, refl, set, set_split, suc, sym, take, take_all, take-append-add, take-append-drop, take-append-le, take_at, take-length, take-set-le, zero-add, ℕ, ◌∙◌}
 use Rattle.laws.specs.Front.{Wrote, laid, over}
 
 -- up to the end of the list is as good as further

@@ -1,5 +1,6 @@
 -- Who has gone: how many pass a test before and not after, and how that moves the count of those who pass.
-use Rattle.laws.specs.Prelude.{◌&&◌, ◌+◌, Bool, List, [], arith, false, get_or, length, not, refl, suc, true, ℕ, ◌∷◌, ◌≡◌}
+use Rattle.std.specs.Prelude.{◌&&◌, ◌+◌, ◌∷◌, ◌≡◌}
+use Rattle.laws.specs.Prelude.{Bool, List, [], arith, false, get_or, length, not, refl, suc, true, ℕ}
 use Rattle.laws.specs.Bools.{bit}
 use Rattle.laws.specs.Lists.{count, gone}
 

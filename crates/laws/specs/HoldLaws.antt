@@ -1,5 +1,6 @@
 -- Conditions that all hold, one by one and by their places.
-use Rattle.laws.specs.Prelude.{Bool, List, get_or, refl, true, ℕ, ◌≡◌}
+use Rattle.std.specs.Prelude.{◌≡◌}
+use Rattle.laws.specs.Prelude.{Bool, List, get_or, refl, true, ℕ}
 use Rattle.laws.specs.Counts.{all_each}
 use Rattle.laws.specs.Lists.{all, holds}
 use Rattle.laws.specs.Chains.{Hold, none, ◌and◌}

@@ -1,5 +1,6 @@
 -- Laws of how many, any and all.
-use Rattle.laws.specs.Prelude.{◌&&◌, ◌+◌, ◌++◌, ◌<◌, Bool, List, [], add_assoc, add_comm, add-one, add-zero, and_assoc, ap, arith, below_more, drop, drop-cons, drop_of_length-le, false, get_or, get_or-set_other, get_or-set_same, le_of_suc-le-suc, length, lt-ltb, ltb, ltb-false, map, not-suc-le-zero, refl, set, suc, sym, true, zero, zero-add, ◌||◌, ℕ, ◌∙◌, ◌∷◌, ◌≡◌, ◌≤◌}
+use Rattle.std.specs.Prelude.{◌&&◌, ◌+◌, ◌++◌, ◌<◌, ◌||◌, ◌∷◌, ◌≡◌, ◌≤◌}
+use Rattle.laws.specs.Prelude.{Bool, List, [], add_assoc, add_comm, add-one, add-zero, and_assoc, ap, arith, below_more, drop, drop-cons, drop_of_length-le, false, get_or, get_or-set_other, get_or-set_same, le_of_suc-le-suc, length, lt-ltb, ltb, ltb-false, map, not-suc-le-zero, refl, set, suc, sym, true, zero, zero-add, ℕ, ◌∙◌}
 use Rattle.laws.specs.Bools.{bit}
 use Rattle.laws.specs.BoolLaws.{bit_le, or_clear}
 use Rattle.laws.specs.Lists.{count, any, all}

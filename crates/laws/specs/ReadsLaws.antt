@@ -1,5 +1,6 @@
 -- What it takes to read a test in both directions.
-use Rattle.laws.specs.Prelude.{Bool, ap, false, false≢true, not, not-false, not-true, refl, true, true≢false, ◌≡◌}
+use Rattle.std.specs.Prelude.{◌≡◌}
+use Rattle.laws.specs.Prelude.{Bool, ap, false, false≢true, not, not-false, not-true, refl, true, true≢false}
 use Rattle.laws.specs.Reads.{Reads}
 
 -- one direction of each is enough, since the two cannot both be

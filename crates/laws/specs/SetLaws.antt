@@ -1,5 +1,6 @@
 -- Laws of sets as numbers, for numbers of any size, so for every width at once.
-use Rattle.laws.specs.Prelude.{◌%◌, ◌&&◌, ◌+◌, ◌-◌, ◌/◌, ◌<◌, Bool, ◌^◌, add-sub_of_le, and_comm, and-eq-true_iff, and_le_l, and_le_r, and_mod, and-or_distrib_left, and_self, and_self_left, and_shr, and-true, ap, arith, bin_ind, bit_and, bit_or, bit_xor, div-eq_of_lt, eq-eqb, eqb, eqb-false, eqb-true, false, le-add_right, le-div_iff_mul-le, le-zero, lt-ltb, ltb, ltb-false, ltb-true, mod-lt, ne_eqb, not, not-true, or_add_and, or_comm, or-false, or_mod, or_self, or_shr, pow_pos, refl, shr-shr, suc, sym, true, true≢false, xor, xor_add_and, xor_mod, xor_shr, zero, zero-div, ◌||◌, ℕ, ◌↔◌, ◌∙◌, ◌≡◌, ◌≤◌}
+use Rattle.std.specs.Prelude.{◌%◌, ◌&&◌, ◌+◌, ◌-◌, ◌/◌, ◌<◌, ◌^◌, ◌||◌, ◌↔◌, ◌≡◌, ◌≤◌}
+use Rattle.laws.specs.Prelude.{Bool, add-sub_of_le, and_comm, and-eq-true_iff, and_le_l, and_le_r, and_mod, and-or_distrib_left, and_self, and_self_left, and_shr, and-true, ap, arith, bin_ind, bit_and, bit_or, bit_xor, div-eq_of_lt, eq-eqb, eqb, eqb-false, eqb-true, false, le-add_right, le-div_iff_mul-le, le-zero, lt-ltb, ltb, ltb-false, ltb-true, mod-lt, ne_eqb, not, not-true, or_add_and, or_comm, or-false, or_mod, or_self, or_shr, pow_pos, refl, shr-shr, suc, sym, true, true≢false, xor, xor_add_and, xor_mod, xor_shr, zero, zero-div, ℕ, ◌∙◌}
 use Rattle.laws.specs.BoolLaws.{and_right, same}
 use Rattle.laws.specs.Reads.{Reads}
 use Rattle.laws.specs.ReadsLaws.{reading}

@@ -1,5 +1,6 @@
 -- Laws along the line: at its beginning, at each job, at its end.
-use Rattle.line.specs.Prelude.{Bool, Each, InTurn, List, Row, Standing, Stands, [], ◌&&◌, ◌+◌, ◌<◌, ◌||◌, ◌∙◌, ◌∷◌, ◌≡◌, add_assoc, add-zero, ahead, and_assoc, any, any_count, ap, arith, behind, bit, claims, count, count_line, count_never, each_cons, each_head, each_tail, earlier, false, front, fun_ext, get_or, in_way_ahead, in_way, inside, le-ltb, line, live, ltb, meet, meets, meets_comm, meets_empty, meets_union, not_earlier, or_assoc, or-false, refl, row_of, sym, true, turn_earlier, union, zero-add, ℕ}
+use Rattle.std.specs.Prelude.{◌&&◌, ◌+◌, ◌<◌, ◌||◌, ◌∷◌, ◌≡◌}
+use Rattle.line.specs.Prelude.{Bool, Each, InTurn, List, Row, Standing, Stands, [], ◌∙◌, add_assoc, add-zero, ahead, and_assoc, any, any_count, ap, arith, behind, bit, claims, count, count_line, count_never, each_cons, each_head, each_tail, earlier, false, front, fun_ext, get_or, in_way_ahead, in_way, inside, le-ltb, line, live, ltb, meet, meets, meets_comm, meets_empty, meets_union, not_earlier, or_assoc, or-false, refl, row_of, sym, true, turn_earlier, union, zero-add, ℕ}
 use Rattle.line.specs.Along.{Along}
 
 -- ---- Tests that no job of a list passes

@@ -1,5 +1,6 @@
 -- What the promises about lines determine.
-use Rattle.line.specs.Prelude.{Line, List, determined, ℕ, ◌≡◌}
+use Rattle.std.specs.Prelude.{◌≡◌}
+use Rattle.line.specs.Prelude.{Line, List, determined, ℕ}
 use Rattle.line.specs.LineInCode.{Holds, Listed, jobs_of}
 
 -- of a line, its jobs and their number; what its array has after them is left open, and nothing reads it

@@ -1,5 +1,6 @@
 -- Texts that are put together piece by piece, and loops that put one piece after the other.
-use Rattle.lines.specs.Prelude.{List, Wrote, [], ◌*◌, ◌+◌, ◌++◌, ◌<◌, ◌∷◌, ◌≡◌, ◌≤◌, add-one, append_assoc, append-nil, arith, ascii, get_or, length, refl, subst, sym, take, take_all, take-suc, text, then, wrote_length, wrote_none, ℕ}
+use Rattle.std.specs.Prelude.{◌*◌, ◌+◌, ◌++◌, ◌<◌, ◌∷◌, ◌≡◌, ◌≤◌}
+use Rattle.lines.specs.Prelude.{List, Wrote, [], add-one, append_assoc, append-nil, arith, ascii, get_or, length, refl, subst, sym, take, take_all, take-suc, text, then, wrote_length, wrote_none, ℕ}
 use Rattle.lines.specs.Lines.{items}
 
 -- The text of a list is the piece of each element, one after the other.

@@ -12,7 +12,7 @@ pub use Rattle.decimal.specs.TextLaws.{length_text, length_text_u64}
 pub use Rattle.event.specs.declared.events.Event.{Event}
 pub use Rattle.event.specs.declared.events.Event.TheVariants.{Ask, Beat, Complete, GiveUp, Open, Release}
 pub use Rattle.rows.specs.Order.{blocked, token}
-pub use Rattle.arbiter.specs.Answers.{Said, saysGranted, saysToken, saysWait}
+pub use Rattle.arbiter.specs.Answers.{Said, says_granted, says_token, says_wait}
 unfoldable pub use Rattle.arbiter.specs.Meaning.{answer, listed}
 pub use Rattle.arbiter.specs.Meaning.{said, wakes}
 pub use Rattle.arbiter.specs.Refusals.{cases}

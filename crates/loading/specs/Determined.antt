@@ -1,5 +1,6 @@
 -- What is promised determines what is handed back.
-use Rattle.loading.specs.Prelude.{Bool, List, Next, Table, ◌≡◌, same_next, ℕ}
+use Rattle.std.specs.Prelude.{◌≡◌}
+use Rattle.loading.specs.Prelude.{Bool, List, Next, Table, same_next, ℕ}
 use Rattle.loading.specs.Promises.{Loaded}
 use Rattle.loading.specs.Taking.{Judges}
 

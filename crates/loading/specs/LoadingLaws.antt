@@ -1,5 +1,6 @@
 -- The rows of a file taken one by one, and what the tests of loading come to.
-use Rattle.loading.specs.Prelude.{Bool, FileHead, FileRow, First, List, Next, Row, Table, UnsoundTable, [], ◌&&◌, ◌*◌, ◌+◌, ◌<◌, ◌||◌, ◌∙◌, ◌∷◌, ◌≡◌, ◌≤◌, and_assoc, and-true, any, ap, drop, eq-eqb, eqb, false, first, idle, jobs, keep_unless, le-ltb, leaves, leaves_is, length, length-set, live, lt-ltb, ltb, map, ne_eqb, no_table, not, or_assoc, or-false, outcome, outcome_is, refl, refusing, replicate, row_of, said_of, saysDone, set, sound, subst, sym, true, unless, ℕ}
+use Rattle.std.specs.Prelude.{◌&&◌, ◌*◌, ◌+◌, ◌<◌, ◌||◌, ◌∷◌, ◌≡◌, ◌≤◌}
+use Rattle.loading.specs.Prelude.{Bool, FileHead, FileRow, First, List, Next, Row, Table, UnsoundTable, [], ◌∙◌, and_assoc, and-true, any, ap, drop, eq-eqb, eqb, false, first, idle, jobs, keep_unless, le-ltb, leaves, leaves_is, length, length-set, live, lt-ltb, ltb, map, ne_eqb, no_table, not, or_assoc, or-false, outcome, outcome_is, refl, refusing, replicate, row_of, said_of, says_done, set, sound, subst, sym, true, unless, ℕ}
 use Rattle.service.specs.File.{bit_set, file_rows, good, head_in, head_size, known, placed, read_cases, row_said, row_size, rows_in, table_in, table_of, version, wrong_size}
 use Rattle.service.specs.Placing.{JobsBelow, fits, free}
 use Rattle.service.specs.PlacingLaws.{fits_all}
@@ -53,15 +54,15 @@ taking_end {fs} {rows} {ok} {stray} jobs-below now =
 
 -- what the first case that applies says of a load
 pub loaded_is :
-    (bs : List ℕ) {n : ℕ} {r : Next} → First (read_cases bs) n → said_of r.answer ≡ unless n saysDone →
+    (bs : List ℕ) {n : ℕ} {r : Next} → First (read_cases bs) n → said_of r.answer ≡ unless n says_done →
     r.table ≡ keep_unless n no_table (table_in bs) → Loaded bs r
 unfolding load_answer load_table
-loaded_is bs f a h = record { says = a ∙ outcome_is saysDone f; hands = h ∙ leaves_is no_table (table_in bs) f }
+loaded_is bs f a h = record { says = a ∙ outcome_is says_done f; hands = h ∙ leaves_is no_table (table_in bs) f }
 
 pub judged_is :
-    (t : Table) (ok : Bool) {n : ℕ} {r : Next} → First (judge_cases t ok) n → said_of r.answer ≡ unless n saysDone →
+    (t : Table) (ok : Bool) {n : ℕ} {r : Next} → First (judge_cases t ok) n → said_of r.answer ≡ unless n says_done →
     r.table ≡ keep_unless n no_table t → Judges t ok r
-judged_is t ok f a h = record { says = a ∙ outcome_is saysDone f; hands = h ∙ leaves_is no_table t f }
+judged_is t ok f a h = record { says = a ∙ outcome_is says_done f; hands = h ∙ leaves_is no_table t f }
 
 -- ---- What the head and the rows that were read say of the file
 
@@ -119,7 +120,7 @@ module _ (bs : List ℕ) (h : FileHead) (is : h ≡ head_in bs) where
         (ap (λ (u : Table). first (judge_cases u ok)) is-table
         ∙ ap (λ (b : Bool). first (refusing UnsoundTable (not b) ∷ [])) good_tested) in
         record {
-          says = j.says ∙ ap (λ (n : ℕ). unless n saysDone) same;
+          says = j.says ∙ ap (λ (n : ℕ). unless n says_done) same;
           hands =
               j.hands ∙ ap (λ (n : ℕ). keep_unless n no_table t) same
               ∙ ap (keep_unless (first (read_cases bs)) no_table) is-table;

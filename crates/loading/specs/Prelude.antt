@@ -19,7 +19,7 @@ pub use Rattle.rows.specs.Order.{idle, live}
 pub use Rattle.rows.specs.declared.row.Row.{Row}
 pub use Rattle.soundness.specs.Beside.{sound_by}
 pub use Rattle.soundness.specs.declared.Bounds.{Bounds}
-pub use Rattle.arbiter.specs.Answers.{said_of, saysDone}
+pub use Rattle.arbiter.specs.Answers.{said_of, says_done}
 pub use Rattle.arbiter.specs.Determined.{same_next}
 pub use Rattle.arbiter.specs.Meaning.{no_table}
 pub use Rattle.arbiter.specs.Sound.{sound}

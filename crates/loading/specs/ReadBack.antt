@@ -1,24 +1,25 @@
 -- What a load hands back is the table that the bytes are read as, so that what holds of files holds of loads; and what was
 -- saved loads back.
-use Rattle.loading.specs.Prelude.{List, Table, UnsoundTable, ◌++◌, ◌≡◌, acceptance_tells, case, clear, drop, fine, jobs, length, no_table, not-false, number_of, over, refl, saysDone, sound, take, take_at, true, ℕ}
+use Rattle.std.specs.Prelude.{◌++◌, ◌≡◌}
+use Rattle.loading.specs.Prelude.{List, Table, UnsoundTable, acceptance_tells, case, clear, drop, fine, jobs, length, no_table, not-false, number_of, over, refl, says_done, sound, take, take_at, true, ℕ}
 use Rattle.service.specs.File.{file, read_cases, table_in, table_read, write_cases}
 use Rattle.service.proofs.RoundTrip.{file_reads}
 use Rattle.saving.specs.Meaning.{room_after, save_answer}
 use Rattle.loading.specs.Meaning.{load_answer, load_table}
 
 -- bytes that are read as a table are loaded as that table
-pub load_reads : (bs : List ℕ) (t : Table) → table_read bs ≡ fine t → (load_answer bs ≡ fine saysDone) × (load_table bs ≡ t)
+pub load_reads : (bs : List ℕ) (t : Table) → table_read bs ≡ fine t → (load_answer bs ≡ fine says_done) × (load_table bs ≡ t)
 unfolding table_read load_answer load_table
 load_reads bs t read =
     let said = acceptance_tells (read_cases bs) (table_in bs) t read in
     let left = acceptance_tells (read_cases bs) (table_in bs) t read in
-    (said.2 saysDone, rw (left.3 no_table (table_in bs)) left.1)
+    (said.2 says_done, rw (left.3 no_table (table_in bs)) left.1)
 
 -- and what was loaded is what they are read as
-pub load_tells : (bs : List ℕ) → load_answer bs ≡ fine saysDone → table_read bs ≡ fine (load_table bs)
+pub load_tells : (bs : List ℕ) → load_answer bs ≡ fine says_done → table_read bs ≡ fine (load_table bs)
 unfolding table_read load_answer load_table
 load_tells bs done =
-    let told = acceptance_tells (read_cases bs) saysDone saysDone done in
+    let told = acceptance_tells (read_cases bs) says_done says_done done in
     rw (told.3 no_table (table_in bs)) (told.2 (table_in bs))
 
 -- a table that was saved into a room is loaded from the bytes that the answer counts there

@@ -1,6 +1,6 @@
 -- What the parts of loading promise.
 use Rattle.std.specs.Prelude.{ℕ, Bool, not, ◌&&◌, ◌||◌, List, [], ◌∷◌, map, ◌≡◌, ltb, length, replicate}
-use Rattle.arbiter.specs.Answers.{said_of, saysDone}
+use Rattle.arbiter.specs.Answers.{said_of, says_done}
 use Rattle.arbiter.specs.Meaning.{no_table}
 use Rattle.arbiter.specs.Sound.{sound}
 use Rattle.arbiter.specs.declared.table.Next.{Next}
@@ -35,5 +35,5 @@ judge_cases t ok = refusing UnsoundTable (not (ok && sound t)) ∷ []
 
 -- The table was judged, given whether its rows fit.
 pub record Judges (t : Table) (ok : Bool) (r : Next) : Type 0 where
-  pub says : said_of r.answer ≡ outcome (judge_cases t ok) saysDone
+  pub says : said_of r.answer ≡ outcome (judge_cases t ok) says_done
   pub hands : r.table ≡ leaves (judge_cases t ok) no_table t

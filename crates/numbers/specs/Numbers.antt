@@ -1,7 +1,7 @@
 -- Answers in numbers, as firmware in C or Rust gets them.
 use Rattle.std.specs.Prelude.{ℕ, false}
 use Rattle.laws.specs.Cases.{Outcome, fine, refused}
-use Rattle.arbiter.specs.Answers.{Said, saysDone, saysGranted, saysToken, saysWait, says_woke}
+use Rattle.arbiter.specs.Answers.{Said, says_done, says_granted, says_token, says_wait, says_woke}
 use Rattle.arbiter.specs.Meaning.{answer, next}
 use Rattle.arbiter.specs.declared.table.Report.{Report}
 use Rattle.arbiter.specs.declared.table.Table.{Table}
@@ -20,19 +20,19 @@ refusal_in (fine a) = 0
 -- what was said: 0 a refusal, 1 "token", 2 "granted", 3 "wait", 4 simply done, 5 done, with the number woken beside it
 abbrev pub said_in : Outcome Said → ℕ
 said_in (refused n) = 0
-said_in (fine saysToken) = 1
-said_in (fine saysGranted) = 2
-said_in (fine saysWait) = 3
-said_in (fine saysDone) = 4
+said_in (fine says_token) = 1
+said_in (fine says_granted) = 2
+said_in (fine says_wait) = 3
+said_in (fine says_done) = 4
 said_in (fine (says_woke n)) = 5
 
 -- how many were woken
 abbrev pub woken_in : Outcome Said → ℕ
 woken_in (refused n) = 0
-woken_in (fine saysToken) = 0
-woken_in (fine saysGranted) = 0
-woken_in (fine saysWait) = 0
-woken_in (fine saysDone) = 0
+woken_in (fine says_token) = 0
+woken_in (fine says_granted) = 0
+woken_in (fine says_wait) = 0
+woken_in (fine says_done) = 0
 woken_in (fine (says_woke n)) = n
 
 -- an event's answer

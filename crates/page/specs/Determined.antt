@@ -1,5 +1,6 @@
 -- The promises determine what is handed back, and what is left in lent memory.
-use Rattle.page.specs.Prelude.{List, Shown, Table, ◌≡◌, answer_by, ap, determined, refl, refusal_of_number_of, told_apart, ℕ}
+use Rattle.std.specs.Prelude.{◌≡◌}
+use Rattle.page.specs.Prelude.{List, Shown, Table, answer_by, ap, determined, refl, refusal_of_number_of, told_apart, ℕ}
 use Rattle.page.specs.Meaning.{shown_of}
 use Rattle.page.specs.Promises.{PutPage}
 use Rattle.page.specs.declared.Shown.TheVariants as shown

@@ -1,5 +1,6 @@
 -- The walk along the whole line tests what is asked of all live rows.
-use Rattle.pass.specs.Prelude.{Along, Bool, Bounds, InTurn, List, Row, Standing, [], ◌&&◌, ◌<◌, ◌||◌, ◌∙◌, ◌∷◌, ◌≡◌, ahead, all, all_each, along_stands, along_start, along_step, and-eq-true_iff, and-false, and_left, and_right, and-true, ap, arith, behind, below, below_reads, beside_by, blocked, distinct, each_all, false, false≢true, front, holds, idle, idle_conditions, implies, le-leb, leb, leb-true, length, line, lined_in_turn, live, lt-ltb, ltb, ltb-true, meets, member, member_empty, member_union, not, or-true, refl, row_beside, row_of, same, sound_in, sym, true, under, union, walks, zeroed, ℕ}
+use Rattle.std.specs.Prelude.{◌&&◌, ◌<◌, ◌||◌, ◌∷◌, ◌≡◌}
+use Rattle.pass.specs.Prelude.{Along, Bool, Bounds, InTurn, List, Row, Standing, [], ◌∙◌, ahead, all, all_each, along_stands, along_start, along_step, and-eq-true_iff, and-false, and_left, and_right, and-true, ap, arith, behind, below, below_reads, beside_by, blocked, distinct, each_all, false, false≢true, front, holds, idle, idle_conditions, implies, le-leb, leb, leb-true, length, line, lined_in_turn, live, lt-ltb, ltb, ltb-true, meets, member, member_empty, member_union, not, or-true, refl, row_beside, row_of, same, sound_in, sym, true, under, union, walks, zeroed, ℕ}
 use Rattle.pass.specs.RiseLaws.{all_line, rising, rising_distinct}
 
 -- all of a union is below R where all of each of the two sets is

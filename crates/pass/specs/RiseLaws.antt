@@ -1,5 +1,6 @@
 -- Turns that rise along the line: live rows of distinct turns.
-use Rattle.pass.specs.Prelude.{Bool, Each, InTurn, List, Row, [], ◌&&◌, ◌+◌, ◌<◌, ◌||◌, ◌∙◌, ◌∷◌, ◌≡◌, ◌≤◌, all, and_left, and_right, ap, arith, bit, count, count_line, distinct, each_all, each_cons, each_head, each_none, each_tail, eq-eqb, eqb, eqb-true, false, fun_ext, get_or, idle, implies, le_of_suc-le-suc, length, line, lined_in_turn, live, lt-ltb, ltb, ltb-true, ne_eqb, not, not-suc-le-zero, refl, row_of, same, suc, suc-le-suc, sym, true, under, zero, zero-add, zero-lt-suc, ℕ, ℕ_discrete}
+use Rattle.std.specs.Prelude.{◌&&◌, ◌+◌, ◌<◌, ◌||◌, ◌∷◌, ◌≡◌, ◌≤◌}
+use Rattle.pass.specs.Prelude.{Bool, Each, InTurn, List, Row, [], ◌∙◌, all, and_left, and_right, ap, arith, bit, count, count_line, distinct, each_all, each_cons, each_head, each_none, each_tail, eq-eqb, eqb, eqb-true, false, fun_ext, get_or, idle, implies, le_of_suc-le-suc, length, line, lined_in_turn, live, lt-ltb, ltb, ltb-true, ne_eqb, not, not-suc-le-zero, refl, row_of, same, suc, suc-le-suc, sym, true, under, zero, zero-add, zero-lt-suc, ℕ, ℕ_discrete}
 
 -- ---- Tests of all
 

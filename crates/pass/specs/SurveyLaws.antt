@@ -1,5 +1,6 @@
 -- What the line and the walk tell of a table is what a call sees of it.
-use Rattle.pass.specs.Prelude.{Bool, Bounds, Found, Line, Lines, List, Row, Walked, Walks, ◌&&◌, ◌∙◌, ◌≡◌, all, all_each, and-false, ap, counters, denied, distinct, eqb-true, false, false≢true, holds, idle, idle_conditions, implying, le-zero, live, ltb-false, not, not-false, not-true, nth, ranges, refl, row_of, sound_by, sound_in, sym, token_by_lem, token_by, true, zeroed, ℕ}
+use Rattle.std.specs.Prelude.{◌&&◌, ◌≡◌}
+use Rattle.pass.specs.Prelude.{Bool, Bounds, Found, Line, Lines, List, Row, Walked, Walks, ◌∙◌, all, all_each, and-false, ap, counters, denied, distinct, eqb-true, false, false≢true, holds, idle, idle_conditions, implying, le-zero, live, ltb-false, not, not-false, not-true, nth, ranges, refl, row_of, sound_by, sound_in, sym, token_by_lem, token_by, true, zeroed, ℕ}
 use Rattle.pass.specs.Pass.{Surveyed}
 use Rattle.pass.specs.PassLaws.{walk_sound, zero_sound}
 use Rattle.pass.specs.declared.known.Survey.{Survey}

@@ -1,7 +1,7 @@
 -- The sessions turn out as the documents say.
 use Rattle.promises.specs.Prelude.{ahead, all, answer, below, count, course, distinct, first, forward, under, in_way, inside, keep, late_in, leaves, lined, meet, meets, next, outcome, overdue, place, refl, report, settled, sound, start_table, union, without, woken}
 use Rattle.promises.specs.Sessions.{Claim, Session}
-use Rattle.promises.specs.Sessions.Session.{P1, P2, P3, P4, P5, P6, P7, P8, P9, P10, P11, P12, leap, last-leap}
+use Rattle.promises.specs.Sessions.Session.{P1, P2, P3, P4, P5, P6, P7, P8, P9, P10, P11, P12, leap, last_leap}
 use Rattle.record.specs.Worked as Record
 
 -- every session turns out as the documents say
@@ -20,4 +20,4 @@ worked P10 = refl
 worked P11 = refl
 worked P12 = refl
 worked leap = refl
-worked last-leap = (refl, refl)
+worked last_leap = (refl, refl)

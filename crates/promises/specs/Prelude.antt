@@ -43,7 +43,7 @@ pub use Rattle.rows.specs.SweepLaws.{ahead_settled, granted_keeps, in_way_settle
 pub use Rattle.rows.specs.Turns.{earlier_turn, live_within, not_earlier, turn_earlier, waiting_reads}
 pub use Rattle.rows.specs.declared.row.Row.{Row}
 pub use Rattle.rows.specs.declared.row.Turn.{Turn}
-pub use Rattle.arbiter.specs.Answers.{Said, saysDone, saysGranted, saysToken, saysWait, says_woke}
+pub use Rattle.arbiter.specs.Answers.{Said, says_done, says_granted, says_token, says_wait, says_woke}
 pub use Rattle.arbiter.specs.Meaning.{accepted, last_after, late, moved, opened_row, reported, row_after, rows_after, rows_with, run, said, time_at, wakes}
 unfoldable pub use Rattle.arbiter.specs.Meaning.{answer, course, listed, next, overdue, report, start_answer, start_table}
 pub use Rattle.arbiter.specs.Refusals.{applies, calling, cases, list_cases, report_cases}

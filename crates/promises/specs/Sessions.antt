@@ -1,11 +1,12 @@
 -- The sessions that document 01 marks P, with P3 as document 02 [4] has it and two leaps besides: one table of claims about the
 -- meanings, each by computation.
-use Rattle.promises.specs.Prelude.{◌+◌, ◌-◌, Ask, Complete, Open, Release, Table, Tick, [], answer, encode, false, fine, forward, highest, jobs, late, overdue, refused, report, run, saysWait, start_table, true, wakes, ℕ, ◌∷◌, ◌≡◌}
+use Rattle.std.specs.Prelude.{◌+◌, ◌-◌, ◌∷◌, ◌≡◌}
+use Rattle.promises.specs.Prelude.{Ask, Complete, Open, Release, Table, Tick, [], answer, encode, false, fine, forward, highest, jobs, late, overdue, refused, report, run, says_wait, start_table, true, wakes, ℕ}
 use Rattle.event.specs.declared.events.Entry.TheVariants.{Event}
 
 -- the sessions marked P, and a leap, also where true time would pass the highest
 pub data Session : Type 0 where
-  P1 P2 P3 P4 P5 P6 P7 P8 P9 P10 P11 P12 leap last-leap : Session
+  P1 P2 P3 P4 P5 P6 P7 P8 P9 P10 P11 P12 leap last_leap : Session
 
 -- the tick of that number
 abbrev at : ℕ → Tick
@@ -42,6 +43,6 @@ Claim P12 =
     answer jobs
     (run (start_table 2 2 0 50) (Open 1 (at 1) 3 ∷ Open 2 (at 2) 1 ∷ Ask 1 (at 3) 1 ∷ Release 1 (at 4) 1 ∷ []))
     (Ask 2 (at 5) 1)
-    ≡ fine saysWait
+    ≡ fine says_wait
 Claim leap = forward 4294967282 3599987 ≡ refused 23
-Claim last-leap = (forward (highest - 5) 3599995 ≡ refused 23) × (forward (highest - 5) 3599994 ≡ refused 6)
+Claim last_leap = (forward (highest - 5) 3599995 ≡ refused 23) × (forward (highest - 5) 3599994 ≡ refused 6)

@@ -1,5 +1,6 @@
 -- Counting along a list.
-use Rattle.questions.specs.Prelude.{Bool, List, Passed, ◌+◌, ◌<◌, ◌∙◌, ◌≡◌, ◌≤◌, add-zero, ap, bit, count, false, get_or, length, passed_all, passed_le, passed_more, passed_none, subst, true, ℕ}
+use Rattle.std.specs.Prelude.{◌+◌, ◌<◌, ◌≡◌, ◌≤◌}
+use Rattle.questions.specs.Prelude.{Bool, List, Passed, ◌∙◌, add-zero, ap, bit, count, false, get_or, length, passed_all, passed_le, passed_more, passed_none, subst, true, ℕ}
 
 -- of the first i jobs of a list n pass the test
 pub record Counting (f : ℕ → Bool) (l : List ℕ) (n i : ℕ) : Type 0 where

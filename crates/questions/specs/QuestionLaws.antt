@@ -1,5 +1,6 @@
 -- Questions along the line: a job's place tells its token, and who is in the way is found in line.
-use Rattle.questions.specs.Prelude.{Bool, Distinct, List, Row, ◌&&◌, ◌+◌, ◌-◌, ◌<◌, ◌||◌, ◌∙◌, ◌≡◌, and_assoc, and_comm, ap, arith, count, count_line, false, fun_ext, get_or, in_way, late_since, le-leb, leb, length, line, line_places, live, lt-leb, lt-ltb, ltb, ltb-false, ltb-true, meets, not, refl, row_of, sym, true, waiting, ℕ}
+use Rattle.std.specs.Prelude.{◌&&◌, ◌+◌, ◌-◌, ◌<◌, ◌||◌, ◌≡◌}
+use Rattle.questions.specs.Prelude.{Bool, Distinct, List, Row, ◌∙◌, and_assoc, and_comm, ap, arith, count, count_line, false, fun_ext, get_or, in_way, late_since, le-leb, leb, length, line, line_places, live, lt-leb, lt-ltb, ltb, ltb-false, ltb-true, meets, not, refl, row_of, sym, true, waiting, ℕ}
 use Rattle.questions.specs.InCode.{claims_ahead, waits_before}
 use Rattle.questions.specs.Late.{late_job}
 

@@ -1,5 +1,6 @@
 -- Each promise of this crate determines what is known, marked or listed.
-use Rattle.rows.specs.Prelude.{Bool, List, Row, Standing, ◌&&◌, ◌∙◌, ◌≡◌, and-false, ap, determined, ext, false, false≢true, meets, meets_reads, member, member_without, not, refl, sym, true, without, ℕ}
+use Rattle.std.specs.Prelude.{◌&&◌, ◌≡◌}
+use Rattle.rows.specs.Prelude.{Bool, List, Row, Standing, ◌∙◌, and-false, ap, determined, ext, false, false≢true, meets, meets_reads, member, member_without, not, refl, sym, true, without, ℕ}
 use Rattle.rows.specs.Stand.{Stands}
 
 -- sets that meet the same sets are one

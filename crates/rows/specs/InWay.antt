@@ -1,5 +1,6 @@
 -- Who is in the way, by name: the reading of Q3 by rows and resources.
-use Rattle.rows.specs.Prelude.{Bool, List, Row, ◌<◌, ◌∙◌, ◌≡◌, ◌≤◌, and-eq-true_iff, and_left, arith, count_at, count_mono, count_some, false, false≢true, inside, inside_reads, meets, meets_reads, member, member_empty, member_union, refl, sym, true, union, ℕ}
+use Rattle.std.specs.Prelude.{◌<◌, ◌≡◌, ◌≤◌}
+use Rattle.rows.specs.Prelude.{Bool, List, Row, ◌∙◌, and-eq-true_iff, and_left, arith, count_at, count_mono, count_some, false, false≢true, inside, inside_reads, meets, meets_reads, member, member_empty, member_union, refl, sym, true, union, ℕ}
 use Rattle.rows.specs.Line.{row_of}
 use Rattle.rows.specs.Order.{ahead, claims, earlier, idle, in_way}
 use Rattle.rows.specs.Turns.{earlier_turn, turn_earlier}

@@ -1,5 +1,6 @@
 -- The decisions from what is known of a turn are those from the rows themselves.
-use Rattle.rows.specs.Prelude.{List, Row, Standing, ◌≡◌, ℕ}
+use Rattle.std.specs.Prelude.{◌≡◌}
+use Rattle.rows.specs.Prelude.{List, Row, Standing, ℕ}
 use Rattle.rows.specs.Order.{token, waiting}
 use Rattle.rows.specs.Stand.{Stands}
 use Rattle.rows.specs.Known.{token_by, waiting_by}

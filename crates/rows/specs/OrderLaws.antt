@@ -1,5 +1,6 @@
 -- How the counts of the order change with the rows.
-use Rattle.rows.specs.Prelude.{Bool, List, Row, ◌+◌, ◌<◌, ◌||◌, ◌∙◌, ◌≡◌, all, all_map, ap, bit, count, count_map, count_set, eqb, fun_ext, get_or, length, map, not, refl, set, sym, ℕ}
+use Rattle.std.specs.Prelude.{◌+◌, ◌<◌, ◌||◌, ◌≡◌}
+use Rattle.rows.specs.Prelude.{Bool, List, Row, ◌∙◌, all, all_map, ap, bit, count, count_map, count_set, eqb, fun_ext, get_or, length, map, not, refl, set, sym, ℕ}
 use Rattle.rows.specs.Order.{idle, live, earlier, ahead, claims, in_way, bears, alone, distinct}
 use Rattle.rows.specs.Propositions.{opening_of}
 

@@ -1,5 +1,6 @@
 -- Laws of the sweep: it changes no turn and no declared set.
-use Rattle.rows.specs.Prelude.{List, List·getD-map, Row, ◌∙◌, ◌≡◌, ap, either, get_or, length, length-map, map, refl, sym, union, ℕ}
+use Rattle.std.specs.Prelude.{◌≡◌}
+use Rattle.rows.specs.Prelude.{List, List·getD-map, Row, ◌∙◌, ap, either, get_or, length, length-map, map, refl, sym, union, ℕ}
 use Rattle.rows.specs.Line.{row_of}
 use Rattle.rows.specs.Order.{ahead, blocked, distinct, idle, in_way, waiting}
 use Rattle.rows.specs.Propositions.{opening_of}

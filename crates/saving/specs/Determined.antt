@@ -1,5 +1,6 @@
 -- The promises determine what is handed back, and what is left in lent memory.
-use Rattle.saving.specs.Prelude.{List, Saved, Table, ◌≡◌, answer_by, ap, determined, refl, refusal_of_number_of, told_apart, ℕ}
+use Rattle.std.specs.Prelude.{◌≡◌}
+use Rattle.saving.specs.Prelude.{List, Saved, Table, answer_by, ap, determined, refl, refusal_of_number_of, told_apart, ℕ}
 use Rattle.saving.specs.Meaning.{saved_of}
 use Rattle.saving.specs.Promises.{SavedInto}
 use Rattle.saving.specs.declared.Saved.TheVariants as Saveds

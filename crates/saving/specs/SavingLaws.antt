@@ -1,5 +1,6 @@
 -- The rows still to be written, and the file that they and the head make.
-use Rattle.saving.specs.Prelude.{First, List, Row, Saved, Table, add-one, ap, arith, drop, drop-cons, get_or, keep_unless, laid, laid_front, laid_laid, leaves_is, length, length_pack, outcome_is, over, row_of, suc, sym, unless, zero-add, ℕ, ◌+◌, ◌++◌, ◌<◌, ◌∙◌, ◌∷◌, ◌≡◌, ◌≤◌}
+use Rattle.std.specs.Prelude.{◌+◌, ◌++◌, ◌<◌, ◌∷◌, ◌≡◌, ◌≤◌}
+use Rattle.saving.specs.Prelude.{First, List, Row, Saved, Table, add-one, ap, arith, drop, drop-cons, get_or, keep_unless, laid, laid_front, laid_laid, leaves_is, length, length_pack, outcome_is, over, row_of, suc, sym, unless, zero-add, ℕ, ◌∙◌}
 use Rattle.service.specs.File.{file, head_bytes, head_of, head_order, head_size, head_widths, row_bytes, row_order, row_size, row_widths, rows_bytes, rows_of, rows_said, say_row, write_cases}
 use Rattle.service.specs.declared.format.FileRow.{FileRow}
 use Rattle.saving.specs.Meaning.{room_after, save_answer, saved_of}

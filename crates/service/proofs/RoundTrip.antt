@@ -1,5 +1,6 @@
 -- A sound table has one file, and reading that file gives the table.
-use Rattle.service.specs.Prelude.{BitSet, Bool, Bytes, List, Row, Table, UnknownVersion, UnsoundTable, WrongSize, [], ◌&&◌, ◌*◌, ◌++◌, ◌+◌, ◌-◌, ◌<◌, ◌↔◌, ◌∙◌, ◌∷◌, ◌≡◌, ◌≤◌, acceptance_tells, and-false, and_left, and_right, any, ap, arith, below_drop, case, clear, drop, drop_at, eq-eqb, eqb, eqb-true, false, fine, first, front_packed, idle, jobs, le-ltb, length, length-drop, length_lined_le, length-map, length_pack, length-replicate, line, ltb, map, none_above, not, not-false, number_of, or_clear, outcome_is, pack, past, refl, refused, replicate, row_of, sound, suc, sym, table_sound, take-append-drop, this, true, zero, ℕ}
+use Rattle.std.specs.Prelude.{◌&&◌, ◌*◌, ◌++◌, ◌+◌, ◌-◌, ◌<◌, ◌↔◌, ◌∷◌, ◌≡◌, ◌≤◌}
+use Rattle.service.specs.Prelude.{BitSet, Bool, Bytes, List, Row, Table, UnknownVersion, UnsoundTable, WrongSize, [], ◌∙◌, acceptance_tells, and-false, and_left, and_right, any, ap, arith, below_drop, case, clear, drop, drop_at, eq-eqb, eqb, eqb-true, false, fine, first, front_packed, idle, jobs, le-ltb, length, length-drop, length_lined_le, length-map, length_pack, length-replicate, line, ltb, map, none_above, not, not-false, number_of, or_clear, outcome_is, pack, past, refl, refused, replicate, row_of, sound, suc, sym, table_sound, take-append-drop, this, true, zero, ℕ}
 use Rattle.laws.specs.Chains.{none as nothing}
 use Rattle.service.specs.File.{ascend, bit_set, file, file_rows, good, head_bytes, head_in, head_of, head_order, head_size, head_widths, known, once, placed, read_cases, row_order, row_size, row_widths, rows_bytes, rows_in, rows_of, say_row, table_in, table_read, version, wrong_size}
 use Rattle.service.specs.FieldsIn.{head_order_lem, row_order_lem}

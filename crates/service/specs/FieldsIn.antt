@@ -1,5 +1,6 @@
 -- What bytes hold, field by field: named and put in order again, the fields are what was unpacked.
-use Rattle.service.specs.Prelude.{Fit, List, ◌++◌, ◌≡◌, ◌≤◌, ◌∙◌, ap, append-nil, arith, drop_of_length-le, fit_unpack, length, length_unpack, over, subst, sym, unpack, unpack_each, ℕ}
+use Rattle.std.specs.Prelude.{◌++◌, ◌≡◌, ◌≤◌}
+use Rattle.service.specs.Prelude.{Fit, List, ◌∙◌, ap, append-nil, arith, drop_of_length-le, fit_unpack, length, length_unpack, over, subst, sym, unpack, unpack_each, ℕ}
 use Rattle.service.specs.File.{head_in, head_named, head_order, head_widths, row_in, row_named, row_order, row_widths}
 use Rattle.service.specs.Promises.{ReadHead, ReadRow}
 use Rattle.service.specs.declared.format.FileHead.{FileHead}

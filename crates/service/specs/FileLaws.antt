@@ -1,5 +1,6 @@
 -- Laws of what is written: how long it is, and that each part is read back.
-use Rattle.service.specs.Prelude.{Fit, List, Table, [], ◌*◌, ◌+◌, ◌++◌, ◌∙◌, ◌∷◌, ◌≡◌, ap, arith, drop_at, front_unpacked, length, length-append, length-map, length_pack, line, refl, row_of, ℕ}
+use Rattle.std.specs.Prelude.{◌*◌, ◌+◌, ◌++◌, ◌∷◌, ◌≡◌}
+use Rattle.service.specs.Prelude.{Fit, List, Table, [], ◌∙◌, ap, arith, drop_at, front_unpacked, length, length-append, length-map, length_pack, line, refl, row_of, ℕ}
 use Rattle.service.specs.File.{file, head_bytes, head_in, head_named, head_of, head_order, head_size, head_widths, row_bytes, row_in, row_named, row_order, row_size, row_widths, rows_bytes, rows_in, rows_of, say_row}
 use Rattle.service.specs.Placing.{Every, RowFits}
 use Rattle.service.specs.declared.format.FileHead.{FileHead}

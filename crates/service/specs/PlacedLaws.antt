@@ -1,5 +1,6 @@
 -- Rows that fit, put into a table, stand in its line as they stand in the file, and are found there again.
-use Rattle.service.specs.Prelude.{Distinct, List, Row, Table, [], ◌&&◌, ◌++◌, ◌<◌, ◌∙◌, ◌∷◌, ◌≡◌, ◌≢◌, ◌≤◌, ahead, ahead_set, and_left, and_right, any, ap, append-nil, append_snoc, arith, at_set, bit, count, distinct_set, earlier, false, get_or-set_other, get_or-set_same, idle, idle_rows, jobs, le-zero, length, length-append, length-replicate, length-set, line, line_joined, lined, live, ltb, ltb-false, ltb-true, map, none_above, not-true, refl, replicate, row_of, set, set-get_or, set-set, sym, true, turn_earlier, under, ℕ}
+use Rattle.std.specs.Prelude.{◌&&◌, ◌++◌, ◌<◌, ◌∷◌, ◌≡◌, ◌≢◌, ◌≤◌}
+use Rattle.service.specs.Prelude.{Distinct, List, Row, Table, [], ◌∙◌, ahead, ahead_set, and_left, and_right, any, ap, append-nil, append_snoc, arith, at_set, bit, count, distinct_set, earlier, false, get_or-set_other, get_or-set_same, idle, idle_rows, jobs, le-zero, length, length-append, length-replicate, length-set, line, line_joined, lined, live, ltb, ltb-false, ltb-true, map, none_above, not-true, refl, replicate, row_of, set, set-get_or, set-set, sym, true, turn_earlier, under, ℕ}
 use Rattle.service.specs.File.{placed, row_said, rows_of, say_row}
 use Rattle.service.specs.Placing.{JobsBelow, UpTo, fits, free}
 use Rattle.service.specs.declared.format.FileRow.{FileRow}

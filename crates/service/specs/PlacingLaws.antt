@@ -1,5 +1,6 @@
 -- Laws of rows put into a table one by one.
-use Rattle.service.specs.Prelude.{Bool, List, Row, [], ◌&&◌, ◌*◌, ◌+◌, ◌-◌, ◌<◌, ◌||◌, ◌∙◌, ◌∷◌, ◌≡◌, all, and-false, and-true, any, ap, arith, drop, drop-drop, eq-eqb, eqb, false, get_or-set_other, get_or-set_same, idle, idle_rows, jobs, length, length-replicate, length-set, lt-ltb, ltb, ltb-true, ne_eqb, not, refl, replicate, set, suc, sym, true, zero, ℕ, ℕ_discrete}
+use Rattle.std.specs.Prelude.{◌&&◌, ◌*◌, ◌+◌, ◌-◌, ◌<◌, ◌||◌, ◌∷◌, ◌≡◌}
+use Rattle.service.specs.Prelude.{Bool, List, Row, [], ◌∙◌, all, and-false, and-true, any, ap, arith, drop, drop-drop, eq-eqb, eqb, false, get_or-set_other, get_or-set_same, idle, idle_rows, jobs, length, length-replicate, length-set, lt-ltb, ltb, ltb-true, ne_eqb, not, refl, replicate, set, suc, sym, true, zero, ℕ, ℕ_discrete}
 use Rattle.service.specs.File.{ascend, once, row_in, row_said, row_size, rows_in}
 use Rattle.service.specs.FieldsIn.{row_fits}
 use Rattle.service.specs.Placing.{JobsBelow, fits, free}

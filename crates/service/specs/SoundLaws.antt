@@ -1,6 +1,7 @@
 -- What is written of a sound table: each number fits its field, the rows are in order and no job has two, and put into an
 -- empty table they make it whole.
-use Rattle.service.specs.Prelude.{Each, Fit, List, Rising, Row, Table, [], ◌&&◌, ◌<◌, ◌^◌, ◌∙◌, ◌∷◌, ◌≡◌, ◌≢◌, ◌≤◌, ahead, any, ap, arith, below, below_reads, dec_lt, each_cons, each_head, each_none, each_tail, eqb, ext_get_or, false, get_or-set_other, get_or-set_same, idle, idle_rows, inside, inside_reads, inside_refl, jobs, length, length_lined_le, length-replicate, length-set, line, line_below, line_place, lt-ltb, ltb-true, map, most, ne_eqb, pow_mono, refl, replicate, row_in, row_of, set, sound, subst, sym, table_sound, true, walk_start, ℕ, ℕ_discrete}
+use Rattle.std.specs.Prelude.{◌&&◌, ◌<◌, ◌^◌, ◌∷◌, ◌≡◌, ◌≢◌, ◌≤◌}
+use Rattle.service.specs.Prelude.{Each, Fit, List, Rising, Row, Table, [], ◌∙◌, ahead, any, ap, arith, below, below_reads, dec_lt, each_cons, each_head, each_none, each_tail, eqb, ext_get_or, false, get_or-set_other, get_or-set_same, idle, idle_rows, inside, inside_reads, inside_refl, jobs, length, length_lined_le, length-replicate, length-set, line, line_below, line_place, lt-ltb, ltb-true, map, most, ne_eqb, pow_mono, refl, replicate, row_in, row_of, set, sound, subst, sym, table_sound, true, walk_start, ℕ, ℕ_discrete}
 use Rattle.service.specs.File.{ascend, head_of, head_order, head_widths, once, placed, rows_of, say_row}
 use Rattle.service.specs.PlacedLaws.{length_placed}
 use Rattle.service.specs.Placing.{Every, RowFits}

@@ -1,6 +1,7 @@
 -- A table of two requests and its file, byte for byte by computing. The bytes were worked out by hand from the layout in
 -- document 02, [1]. Job 5 declares 0, 1 and 3 and holds 0 and 1; job 1 was opened later, declares 0 and 1 and waits for 0.
-use Rattle.service.specs.Prelude.{List, Row, Table, [], ◌++◌, ◌∷◌, ◌≡◌, ahead, all, any, below, bits, count, digits, distinct, fine, first, idle, in_way, inside, jobs, lined, meet, meets, outcome, pack, place, refl, replicate, row, set, sound, split, true, under, unpack, value, ℕ}
+use Rattle.std.specs.Prelude.{◌++◌, ◌∷◌, ◌≡◌}
+use Rattle.service.specs.Prelude.{List, Row, Table, [], ahead, all, any, below, bits, count, digits, distinct, fine, first, idle, in_way, inside, jobs, lined, meet, meets, outcome, pack, place, refl, replicate, row, set, sound, split, true, under, unpack, value, ℕ}
 use Rattle.service.specs.File.{ascend, file, once, placed, rows_bytes, rows_in, table_in, table_read}
 
 abbrev holder : Row

@@ -1,6 +1,7 @@
 -- The conditions on a live row are those beside what stands before it, its turn's and its resources'; and what code tests
 -- of a row, by unions of sets, is what those conditions say one by one.
-use Rattle.soundness.specs.Prelude.{Bool, Row, ◌&&◌, ◌||◌, ◌∙◌, ◌≡◌, all, and_assoc, and-false, and-true, ap, arith, below, cond, eqb, eqb-true, false, holds, implies, inside, inside_both, inside_empty, le-leb, leb, live, lt-ltb, ltb, meets, meets_comm, meets_empty, meets_union, ne_eqb, not, or-false, or-true, refl, suc, sym, true, union, union_none, zero, ℕ}
+use Rattle.std.specs.Prelude.{◌&&◌, ◌||◌, ◌≡◌}
+use Rattle.soundness.specs.Prelude.{Bool, Row, ◌∙◌, all, and_assoc, and-false, and-true, ap, arith, below, cond, eqb, eqb-true, false, holds, implies, inside, inside_both, inside_empty, le-leb, leb, live, lt-ltb, ltb, meets, meets_comm, meets_empty, meets_union, ne_eqb, not, or-false, or-true, refl, suc, sym, true, union, union_none, zero, ℕ}
 use Rattle.soundness.specs.Beside.{beside_by, holder_by, row_by}
 use Rattle.soundness.specs.Conditions.{declares_some}
 

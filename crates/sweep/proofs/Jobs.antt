@@ -1,5 +1,6 @@
 -- The jobs of a line, as code reads them.
-use Rattle.sweep.specs.Prelude.{Bool, Line, Lines, List, Row, ◌&&◌, ◌<◌, ◌∙◌, ◌≡◌, ◌≤◌, ◌⊎◌, ap, arith, false, get_or, get_or-take, inl, inr, jobs, length, length_lined_le, line, line_below, ltb, ltb-false, refl, sym, true, ℕ}
+use Rattle.std.specs.Prelude.{◌&&◌, ◌<◌, ◌≡◌, ◌≤◌, ◌⊎◌}
+use Rattle.sweep.specs.Prelude.{Bool, Line, Lines, List, Row, ◌∙◌, ap, arith, false, get_or, get_or-take, inl, inr, jobs, length, length_lined_le, line, line_below, ltb, ltb-false, refl, sym, true, ℕ}
 
 module _ (rows : List Row) {l : Line} (lines : Lines rows l) where
   -- job by job it is the line of the rows

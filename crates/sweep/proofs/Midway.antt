@@ -1,5 +1,6 @@
 -- The sweep on the way along the line: what has been made of the rows.
-use Rattle.sweep.specs.Prelude.{Bool, Each, List, Listed, Row, Standing, Turn, [], ◌+◌, ◌<◌, ◌∙◌, ◌∷◌, ◌≡◌, ◌≢◌, ◌≤◌, ◌⊎◌, add-one, add-zero, ahead, ap, arith, behind, bit, cond, drop, drop-cons, drop_of_length-le, each_head, each_tail, either, ext_get_or, false, front, get_or, get_or-set_other, get_or-set_same, goes_on, idle, inl, inr, keep, le-ltb, length, length-set, length_settled, line, live, live_within, lt-ltb, ltb, ltb-false, ltb-true, refl, row_of, set, set-get_or, settled, subst, sym, true, turn_settled, wakes_by, woke, woken, ℕ, ℕ_discrete, ⊎_elim}
+use Rattle.std.specs.Prelude.{◌+◌, ◌<◌, ◌∷◌, ◌≡◌, ◌≢◌, ◌≤◌, ◌⊎◌}
+use Rattle.sweep.specs.Prelude.{Bool, Each, List, Listed, Row, Standing, Turn, [], ◌∙◌, add-one, add-zero, ahead, ap, arith, behind, bit, cond, drop, drop-cons, drop_of_length-le, each_head, each_tail, either, ext_get_or, false, front, get_or, get_or-set_other, get_or-set_same, goes_on, idle, inl, inr, keep, le-ltb, length, length-set, length_settled, line, live, live_within, lt-ltb, ltb, ltb-false, ltb-true, refl, row_of, set, set-get_or, settled, subst, sym, true, turn_settled, wakes_by, woke, woken, ℕ, ℕ_discrete, ⊎_elim}
 use Rattle.sweep.specs.Walking.{Walk, live_in}
 use Rattle.sweep.specs.WalkingLaws.{one_place, walk_alive, walk_end, walk_later, walk_stands, walk_start, walk_step}
 use Rattle.sweep.specs.Written.{Written}

@@ -1,5 +1,6 @@
 -- What the loop over lent rows keeps, and what one turn of it makes of that.
-use Rattle.sweep.specs.Prelude.{Bool, Bounds, Line, Lines, List, Row, Standing, ◌&&◌, ◌+◌, ◌<◌, ◌≡◌, ◌≤◌, and_left, and_right, arith, bit, false, front, get_or, inl, inr, jobs, length, live, ltb, ltb-true, not, row_of, set, sound_by, subst, sym, true, ℕ, ⊎_elim}
+use Rattle.std.specs.Prelude.{◌&&◌, ◌+◌, ◌<◌, ◌≡◌, ◌≤◌}
+use Rattle.sweep.specs.Prelude.{Bool, Bounds, Line, Lines, List, Row, Standing, and_left, and_right, arith, bit, false, front, get_or, inl, inr, jobs, length, live, ltb, ltb-true, not, row_of, set, sound_by, subst, sym, true, ℕ, ⊎_elim}
 use Rattle.sweep.specs.Passing.{noted, passed_by}
 use Rattle.sweep.specs.SteadyLaws.{sound_steady, sound_tokens}
 use Rattle.sweep.specs.Sweeping.{Acts, Onward, Settles}

@@ -1,5 +1,6 @@
 -- Jobs listed at the front of a lent list, one by one along a line.
-use Rattle.sweep.specs.Prelude.{Bool, List, Listed, [], ◌++◌, ◌+◌, ◌<◌, ◌∙◌, ◌∷◌, ◌≡◌, ◌≤◌, add-one, ap, append-nil, append_snoc, arith, cond, drop, drop-cons, drop-drop, drop-set-lt, false, get_or, keep, length, length-set, length-take-le, over, refl, set, sym, take, take-append-drop, take-suc-set, true, ℕ}
+use Rattle.std.specs.Prelude.{◌++◌, ◌+◌, ◌<◌, ◌∷◌, ◌≡◌, ◌≤◌}
+use Rattle.sweep.specs.Prelude.{Bool, List, Listed, [], ◌∙◌, add-one, ap, append-nil, append_snoc, arith, cond, drop, drop-cons, drop-drop, drop-set-lt, false, get_or, keep, length, length-set, length-take-le, over, refl, set, sym, take, take-append-drop, take-suc-set, true, ℕ}
 
 -- of the first i jobs of a list n pass the test, and these stand at the front of a lent list
 pub record Writing (f : ℕ → Bool) (l before out : List ℕ) (n i : ℕ) : Type 0 where

@@ -1,5 +1,6 @@
 -- What an event that may wake others promises determines the rows, the number returned and the list.
-use Rattle.sweep.specs.Prelude.{List, Row, ℕ, ◌≡◌}
+use Rattle.std.specs.Prelude.{◌≡◌}
+use Rattle.sweep.specs.Prelude.{List, Row, ℕ}
 use Rattle.laws.specs.Determined.{determined}
 use Rattle.line.specs.Determined.{listed_determined}
 use Rattle.sweep.specs.Sweeping.{Settles}

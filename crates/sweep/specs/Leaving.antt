@@ -1,5 +1,6 @@
 -- The line when some have left is the line without them; and rows of the same turns stand in the same line.
-use Rattle.sweep.specs.Prelude.{Bool, Each, InTurn, List, Row, [], ◌<◌, ◌∙◌, ◌∷◌, ◌≡◌, ap, arith, at_set, cond, each_head, eq-eqb, false, idle, keep, length, length-set, line, lined, lined_in_turn, live, lt-ltb, ltb, ltb-true, ne_eqb, not, place, refl, row_of, set, sym, true, under, ℕ}
+use Rattle.std.specs.Prelude.{◌<◌, ◌∷◌, ◌≡◌}
+use Rattle.sweep.specs.Prelude.{Bool, Each, InTurn, List, Row, [], ◌∙◌, ap, arith, at_set, cond, each_head, eq-eqb, false, idle, keep, length, length-set, line, lined, lined_in_turn, live, lt-ltb, ltb, ltb-true, ne_eqb, not, place, refl, row_of, set, sym, true, under, ℕ}
 use Rattle.sweep.specs.Walking.{besides}
 
 -- ---- What a list keeps

@@ -1,5 +1,6 @@
 -- The three ways in which a job is passed.
-use Rattle.sweep.specs.Prelude.{Bool, Row, Standing, ◌≡◌, behind, cond, false, goes_on, live, sym, true, wakes_by, ℕ}
+use Rattle.std.specs.Prelude.{◌≡◌}
+use Rattle.sweep.specs.Prelude.{Bool, Row, Standing, behind, cond, false, goes_on, live, sym, true, wakes_by, ℕ}
 use Rattle.sweep.specs.Passing.{passed_by}
 use Rattle.sweep.specs.declared.settling.Passed.{Passed}
 

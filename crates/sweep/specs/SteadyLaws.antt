@@ -1,5 +1,6 @@
 -- The rows of a sound table are steady, and its tokens are at most as many as jobs.
-use Rattle.sweep.specs.Prelude.{Bool, Bounds, Distinct, List, Row, ◌&&◌, ◌-◌, ◌<◌, ◌^◌, ◌||◌, ◌∙◌, ◌≡◌, ◌≤◌, ahead, all, all_each, and_left, and_right, ap, below, beside_by, blocked, counters, denied, distinct, distinct_rows, eqb, eqb-true, get_or, holds, idle, idle_conditions, implied, le-ltb, le-zero, leb, leb-true, lt-ltb, ltb, ltb-false, most, not, nth, ranges, refl, row_beside, row_of, sound_by, sound_in, sym, true, ℕ}
+use Rattle.std.specs.Prelude.{◌&&◌, ◌-◌, ◌<◌, ◌^◌, ◌||◌, ◌≡◌, ◌≤◌}
+use Rattle.sweep.specs.Prelude.{Bool, Bounds, Distinct, List, Row, ◌∙◌, ahead, all, all_each, and_left, and_right, ap, below, beside_by, blocked, counters, denied, distinct, distinct_rows, eqb, eqb-true, get_or, holds, idle, idle_conditions, implied, le-ltb, le-zero, leb, leb-true, lt-ltb, ltb, ltb-false, most, not, nth, ranges, refl, row_beside, row_of, sound_by, sound_in, sym, true, ℕ}
 use Rattle.sweep.specs.Steady.{Steady}
 
 module _ (b : Bounds) (rows : List Row) (sound : sound_by b rows ≡ true) where

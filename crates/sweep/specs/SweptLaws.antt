@@ -1,5 +1,6 @@
 -- One row after an event that may wake others: what the sweep makes of it, and whether it wakes.
-use Rattle.sweep.specs.Prelude.{Bool, List, Row, Standing, Stands, Turn, ◌&&◌, ◌-◌, ◌<◌, ◌||◌, ◌∙◌, ◌≡◌, ◌≤◌, ahead, ahead_settled, and-false, and-true, ap, arith, blocked, cond, either, eq-eqb, eqb, false, goes_on, idle, in_way_empty, in_way, inl, inr, keep, le-zero, length_settled, line, live, lt-ltb, ltb, ltb-false, ltb-true, ne_eqb, not, or_comm, refl, rested_row, row_settled, row_of, settled, swept_idle, swept_row, sym, true, turn_settled, union, union_empty, waiting, waiting_reads, wakes_by, woke, woken, ℕ}
+use Rattle.std.specs.Prelude.{◌&&◌, ◌-◌, ◌<◌, ◌||◌, ◌≡◌, ◌≤◌}
+use Rattle.sweep.specs.Prelude.{Bool, List, Row, Standing, Stands, Turn, ◌∙◌, ahead, ahead_settled, and-false, and-true, ap, arith, blocked, cond, either, eq-eqb, eqb, false, goes_on, idle, in_way_empty, in_way, inl, inr, keep, le-zero, length_settled, line, live, lt-ltb, ltb, ltb-false, ltb-true, ne_eqb, not, or_comm, refl, rested_row, row_settled, row_of, settled, swept_idle, swept_row, sym, true, turn_settled, union, union_empty, waiting, waiting_reads, wakes_by, woke, woken, ℕ}
 use Rattle.sweep.specs.Walking.{live_in}
 use Rattle.sweep.specs.Written.{MovedUp, Written, as_many, gone_behind, one_fewer}
 use Rattle.sweep.specs.Leaving.{keep_within, line_kept, line_turns}

@@ -1,5 +1,6 @@
 -- Laws of going along a line: at its beginning, at each job, of those to come, at its end.
-use Rattle.sweep.specs.Prelude.{Bool, Distinct, Each, InTurn, List, Row, Standing, Stands, [], ◌+◌, ◌<◌, ◌∷◌, ◌≡◌, ◌≢◌, ◌≤◌, ahead, ahead_mono, ahead_set, along_end, along_stands, along_start, along_step, ap, arith, behind, bit, cond, each_head, each_tail, false, front, get_or, idle, le_antisymm, le_of_suc-le-suc, length, line, lined, lined_below, lined_in_turn, live, live_within, ltb, ltb-false, ltb-true, not_earlier, not-suc-le-zero, place, refl, row_of, set, suc, sym, true, turn_earlier, under, zero, ℕ}
+use Rattle.std.specs.Prelude.{◌+◌, ◌<◌, ◌∷◌, ◌≡◌, ◌≢◌, ◌≤◌}
+use Rattle.sweep.specs.Prelude.{Bool, Distinct, Each, InTurn, List, Row, Standing, Stands, [], ahead, ahead_mono, ahead_set, along_end, along_stands, along_start, along_step, ap, arith, behind, bit, cond, each_head, each_tail, false, front, get_or, idle, le_antisymm, le_of_suc-le-suc, length, line, lined, lined_below, lined_in_turn, live, live_within, ltb, ltb-false, ltb-true, not_earlier, not-suc-le-zero, place, refl, row_of, set, suc, sym, true, turn_earlier, under, zero, ℕ}
 use Rattle.sweep.specs.Walking.{Rising, Walk}
 
 -- ---- Of two live rows the one of higher turn has more ahead of it

@@ -1,5 +1,6 @@
 -- What is written in place of a row whose request acts leaves the rows as the sweep needs them.
-use Rattle.sweep.specs.Prelude.{Bool, Distinct, List, Row, ◌&&◌, ◌+◌, ◌<◌, ◌∙◌, ◌≡◌, ◌≢◌, ahead, ahead_set, ap, arith, at_set, bit, distinct_set, earlier, false, get_or-set_same, idle, length, length-set, live, live_within, lt-ltb, ltb, ltb-false, ltb-true, not, not_earlier, refl, row_of, set, subst, sym, true, turn_earlier, waiting, waiting_reads, ℕ}
+use Rattle.std.specs.Prelude.{◌&&◌, ◌+◌, ◌<◌, ◌≡◌, ◌≢◌}
+use Rattle.sweep.specs.Prelude.{Bool, Distinct, List, Row, ◌∙◌, ahead, ahead_set, ap, arith, at_set, bit, distinct_set, earlier, false, get_or-set_same, idle, length, length-set, live, live_within, lt-ltb, ltb, ltb-false, ltb-true, not, not_earlier, refl, row_of, set, subst, sym, true, turn_earlier, waiting, waiting_reads, ℕ}
 use Rattle.sweep.specs.Steady.{Steady}
 use Rattle.sweep.specs.Sweeping.{Acts, Onward, ended, stayed}
 use Rattle.sweep.specs.WalkingLaws.{ahead_rises}

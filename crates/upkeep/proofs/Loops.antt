@@ -1,5 +1,6 @@
 -- Going along a line for a job's standing, place by place.
-use Rattle.upkeep.specs.Prelude.{List, Standing, ◌+◌, ◌<◌, ◌∙◌, ◌∷◌, ◌≡◌, ◌≢◌, ◌≤◌, add-one, drop, drop-cons, drop_of_length-le, eq-eqb, front, get_or, length, ne_eqb, union, ℕ}
+use Rattle.std.specs.Prelude.{◌+◌, ◌<◌, ◌∷◌, ◌≡◌, ◌≢◌, ◌≤◌}
+use Rattle.upkeep.specs.Prelude.{List, Standing, ◌∙◌, add-one, drop, drop-cons, drop_of_length-le, eq-eqb, front, get_or, length, ne_eqb, union, ℕ}
 use Rattle.upkeep.specs.Upkeep.{standing_in}
 
 -- the standing with p jobs before it that declare these sets

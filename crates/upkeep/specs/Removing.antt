@@ -1,5 +1,6 @@
 -- Laws of a list without one of its entries.
-use Rattle.upkeep.specs.Prelude.{List, [], ◌++◌, ◌<◌, ◌∷◌, ◌≡◌, ◌≢◌, ◌≤◌, ap, arith, besides, drop, eq-eqb, get_or, keep, le_of_suc-le-suc, length, ne_eqb, not-suc-le-zero, refl, set, suc, sym, take, zero, zero-lt-suc, ℕ}
+use Rattle.std.specs.Prelude.{◌++◌, ◌<◌, ◌∷◌, ◌≡◌, ◌≢◌, ◌≤◌}
+use Rattle.upkeep.specs.Prelude.{List, [], ap, arith, besides, drop, eq-eqb, get_or, keep, le_of_suc-le-suc, length, ne_eqb, not-suc-le-zero, refl, set, suc, sym, take, zero, zero-lt-suc, ℕ}
 use Rattle.upkeep.specs.Upkeep.{removed}
 
 -- the entry after a place is copied there, and its own place is free

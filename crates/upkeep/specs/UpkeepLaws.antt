@@ -1,5 +1,6 @@
 -- What is kept is what the rows say: a job's standing and its place by the line, and the line when a job goes or comes.
-use Rattle.upkeep.specs.Prelude.{Bool, Distinct, List, Onward, Row, Standing, Stands, Turn, Walk, [], ◌++◌, ◌+◌, ◌<◌, ◌∙◌, ◌∷◌, ◌≡◌, ◌≢◌, ◌≤◌, ahead, ahead_set, ap, arith, at_set, behind, bit, cond, earlier, ended, eq-eqb, eqb, front, get_or, get_or-set_other, get_or-set_same, idle, length, length-set, length_settled, line, line_besides, line_places, line_turns, live, live_within, lt-ltb, ne_eqb, not_earlier, one_place, opening_of, refl, row_settled, row_of, set, settled, settled_rows, stayed, subst, suc, swept_keeps, sym, turn_settled, union, walk_alive, walk_end, walk_stands, walk_start, walk_step, zero, ℕ, ℕ_discrete}
+use Rattle.std.specs.Prelude.{◌++◌, ◌+◌, ◌<◌, ◌∷◌, ◌≡◌, ◌≢◌, ◌≤◌}
+use Rattle.upkeep.specs.Prelude.{Bool, Distinct, List, Onward, Row, Standing, Stands, Turn, Walk, [], ◌∙◌, ahead, ahead_set, ap, arith, at_set, behind, bit, cond, earlier, ended, eq-eqb, eqb, front, get_or, get_or-set_other, get_or-set_same, idle, length, length-set, length_settled, line, line_besides, line_places, line_turns, live, live_within, lt-ltb, ne_eqb, not_earlier, one_place, opening_of, refl, row_settled, row_of, set, settled, settled_rows, stayed, subst, suc, swept_keeps, sym, turn_settled, union, walk_alive, walk_end, walk_stands, walk_start, walk_step, zero, ℕ, ℕ_discrete}
 use Rattle.upkeep.specs.Removing.{removed_besides, removed_last}
 use Rattle.upkeep.specs.Upkeep.{Declares, removed, standing_in}
 

@@ -1,5 +1,6 @@
 -- What a first part of an event's cases and the rest say together.
-use Rattle.verdict.specs.Prelude.{Case, List, Moment, Outcome, Refusal, ◌++◌, ◌∙◌, ◌≡◌, ap, moment_of, outcome, outcome_back, outcome_front, positive, sym, true, ℕ}
+use Rattle.std.specs.Prelude.{◌++◌, ◌≡◌}
+use Rattle.verdict.specs.Prelude.{Case, List, Moment, Outcome, Refusal, ◌∙◌, ap, moment_of, outcome, outcome_back, outcome_front, positive, sym, true, ℕ}
 use Rattle.event.specs.declared.clock.Moment.TheVariants.{At, No}
 
 module _ (cs ds : List Case) (time : ℕ) {v : Moment} (says : moment_of v ≡ outcome cs time) where

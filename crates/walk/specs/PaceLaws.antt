@@ -1,5 +1,6 @@
 -- Laws of the pace: what the walk's loop keeps, at the beginning, at each job, at the end.
-use Rattle.walk.specs.Prelude.{Bool, Bounds, Line, Lines, List, Pace, Row, ◌&&◌, ◌+◌, ◌<◌, ◌∙◌, ◌≡◌, ◌≤◌, and_left, and_right, ap, arith, below, beside_by, cond, drop, eqb, eqb-false, eqb-true, false, front, get_or, holds, line, ltb, meets, not, refl, row_of, sym, true, ℕ}
+use Rattle.std.specs.Prelude.{◌&&◌, ◌+◌, ◌<◌, ◌≡◌, ◌≤◌}
+use Rattle.walk.specs.Prelude.{Bool, Bounds, Line, Lines, List, Pace, Row, ◌∙◌, and_left, and_right, ap, arith, below, beside_by, cond, drop, eqb, eqb-false, eqb-true, false, front, get_or, holds, line, ltb, meets, not, refl, row_of, sym, true, ℕ}
 use Rattle.walk.specs.Pace.{begun, finished, paced}
 use Rattle.walk.specs.Walk.{Walking, Walks}
 use Rattle.walk.specs.WalkLaws.{walking_end, walking_fails, walking_falls, walking_finds, walking_past, walking_start}

@@ -1,5 +1,6 @@
 -- Laws of the walk: at the beginning, at each job, at the end.
-use Rattle.walk.specs.Prelude.{Bool, Bounds, InTurn, Line, Lines, List, Row, Standing, Stands, [], ◌&&◌, ◌+◌, ◌<◌, ◌||◌, ◌∙◌, ◌∷◌, ◌≡◌, ◌≢◌, ◌≤◌, ◌⊎◌, add-one, along_stands, along_start, along_step, and-false, and-true, any, any_count, ap, arith, behind, below, beside_by, bit, count_keep, drop, drop-cons, drop_of_length-le, eqb, false, false≢true, front, get_or, get_or-take, holds, idle, inl, inr, le-zero, length, length_lined_le, line, line_below, lined_in_turn, listed_once, live, lt-ltb, ltb, ltb-false, ltb-true, meets, ne_eqb, nobody_before, not, not-false, not_ltb, not-true, refl, row_of, subst, suc, sym, true, true≢false, under, ℕ, ⊎_elim}
+use Rattle.std.specs.Prelude.{◌&&◌, ◌+◌, ◌<◌, ◌||◌, ◌∷◌, ◌≡◌, ◌≢◌, ◌≤◌, ◌⊎◌}
+use Rattle.walk.specs.Prelude.{Bool, Bounds, InTurn, Line, Lines, List, Row, Standing, Stands, [], ◌∙◌, add-one, along_stands, along_start, along_step, and-false, and-true, any, any_count, ap, arith, behind, below, beside_by, bit, count_keep, drop, drop-cons, drop_of_length-le, eqb, false, false≢true, front, get_or, get_or-take, holds, idle, inl, inr, le-zero, length, length_lined_le, line, line_below, lined_in_turn, listed_once, live, lt-ltb, ltb, ltb-false, ltb-true, meets, ne_eqb, nobody_before, not, not-false, not_ltb, not-true, refl, row_of, subst, suc, sym, true, true≢false, under, ℕ, ⊎_elim}
 use Rattle.walk.specs.Walk.{Coming, Found, Walking, Walks, walks}
 use Rattle.walk.specs.declared.Walked.{Walked}
 

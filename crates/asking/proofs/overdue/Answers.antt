@@ -1,5 +1,6 @@
 -- A refusal leaves the list; an accepted question lists who is overdue.
-use Rattle.asking.specs.Prelude.{Beat, Bounds, Count, List, Listed, No, OverdueAnswered, Refusal, ShortList, Surveyed, Table, ◌∙◌, ◌≡◌, acceptance_tells, ap, bounds_of, fine, judged, late, late_in, le-ltb, length, lt-ltb, moment_of, number_of, outcome, outcome_is, outcome_past, over, overdue, overdue_cases, overdue_list, refusal_tells, refusal_cases, refused, saw_sound, seen_in, sound_by_lem, sound_by, subst, surveyed_by, sym, this, time_at, time_from, true, ℕ}
+use Rattle.std.specs.Prelude.{◌≡◌}
+use Rattle.asking.specs.Prelude.{Beat, Bounds, Count, List, Listed, No, OverdueAnswered, Refusal, ShortList, Surveyed, Table, ◌∙◌, acceptance_tells, ap, bounds_of, fine, judged, late, late_in, le-ltb, length, lt-ltb, moment_of, number_of, outcome, outcome_is, outcome_past, over, overdue, overdue_cases, overdue_list, refusal_tells, refusal_cases, refused, saw_sound, seen_in, sound_by_lem, sound_by, subst, surveyed_by, sym, this, time_at, time_from, true, ℕ}
 use Rattle.asking.proofs.Surveys.{listed_by, seen_tells}
 use Rattle.asking.proofs.overdue.Goals as goal
 use Rattle.asking.proofs.overdue.Goals.{After-clock_verdict-verdict, After-survey-s}

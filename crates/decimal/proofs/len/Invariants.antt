@@ -1,5 +1,6 @@
 -- The loop keeps: the digits counted and those of the rest are those of n, with one counted in advance.
-use Rattle.decimal.specs.Prelude.{◌+◌, length, ◌≡◌}
+use Rattle.std.specs.Prelude.{◌+◌, ◌≡◌}
+use Rattle.decimal.specs.Prelude.{length}
 use Rattle.decimal.specs.Text.{text}
 use Rattle.decimal.proofs.len.Given as goal
 

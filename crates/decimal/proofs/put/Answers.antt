@@ -1,5 +1,6 @@
 -- The loop keeps: the bytes of the text before place i are written.
-use Rattle.decimal.specs.Prelude.{◌+◌, ◌-◌, ◌<◌, List, Wrote, add_assoc, add-one, add-zero, arith, get_or, length, length-set, refl, set, subst, take, take_all, take-suc, then, wrote_none, wrote_one, ℕ, ◌∙◌, ◌≡◌}
+use Rattle.std.specs.Prelude.{◌+◌, ◌-◌, ◌<◌, ◌≡◌}
+use Rattle.decimal.specs.Prelude.{List, Wrote, add_assoc, add-one, add-zero, arith, get_or, length, length-set, refl, set, subst, take, take_all, take-suc, then, wrote_none, wrote_one, ℕ, ◌∙◌}
 use Rattle.decimal.proofs.put.Goals as goal
 
 -- one byte more

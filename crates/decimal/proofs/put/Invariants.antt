@@ -1,5 +1,6 @@
 -- The loop keeps: the bytes of the text before place i are written.
-use Rattle.decimal.specs.Prelude.{◌+◌, ◌-◌, Wrote, length, take, ◌≡◌, ◌≤◌}
+use Rattle.std.specs.Prelude.{◌+◌, ◌-◌, ◌≡◌, ◌≤◌}
+use Rattle.decimal.specs.Prelude.{Wrote, length, take}
 use Rattle.decimal.proofs.put.Given as goal
 
 abbrev pub invariant-loop-i : goal.invariant-loop-i

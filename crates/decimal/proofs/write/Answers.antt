@@ -1,5 +1,6 @@
 -- The loop keeps: laying the digits that are left over the buffer gives what is promised, and k is the place of the last of them.
-use Rattle.decimal.specs.Prelude.{◌%◌, ◌+◌, ◌/◌, ◌<◌, List, arith, laid, laid_last, laid_one, length, length-set, refl, set, ℕ, ◌∙◌, ◌≡◌, ◌≤◌}
+use Rattle.std.specs.Prelude.{◌%◌, ◌+◌, ◌/◌, ◌<◌, ◌≡◌, ◌≤◌}
+use Rattle.decimal.specs.Prelude.{List, arith, laid, laid_last, laid_one, length, length-set, refl, set, ℕ, ◌∙◌}
 use Rattle.decimal.specs.Text.{text}
 use Rattle.decimal.specs.TextLaws.{text_small, text_large, length_text_small, length_text_large, length_text_pos}
 use Rattle.decimal.proofs.write.Goals as goal

@@ -1,5 +1,6 @@
 -- The loop keeps: laying the digits that are left over the buffer gives what is promised, and k is the place of the last of them.
-use Rattle.decimal.specs.Prelude.{◌+◌, ◌<◌, laid, length, ◌≡◌}
+use Rattle.std.specs.Prelude.{◌+◌, ◌<◌, ◌≡◌}
+use Rattle.decimal.specs.Prelude.{laid, length}
 use Rattle.decimal.specs.Text.{text}
 use Rattle.decimal.proofs.write.Given as goal
 

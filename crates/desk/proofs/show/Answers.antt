@@ -1,5 +1,6 @@
 -- The room is tested first; then the answer tells whether the file has a table.
-use Rattle.desk.specs.Prelude.{Answer, Done, Granted, No, Refusal, Said, Token, Wait, Woke, ◌≡◌, fine, lt-ltb, number_of, refl, said_of, this}
+use Rattle.std.specs.Prelude.{◌≡◌}
+use Rattle.desk.specs.Prelude.{Answer, Done, Granted, No, Refusal, Said, Token, Wait, Woke, fine, lt-ltb, number_of, refl, said_of, this}
 use Rattle.desk.specs.ShowLaws.{accepted_reads, refused_reads, shows_is, shows_no, shows_page}
 use Rattle.desk.proofs.show.Goals as goal
 

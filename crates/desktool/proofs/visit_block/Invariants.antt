@@ -1,5 +1,6 @@
 -- The loop keeps its place within the block.
-use Rattle.desktool.specs.Prelude.{◌-◌, ◌≤◌, length}
+use Rattle.std.specs.Prelude.{◌-◌, ◌≤◌}
+use Rattle.desktool.specs.Prelude.{length}
 use Rattle.desktool.proofs.visit_block.Given as goal
 
 abbrev pub invariant-loop-at : goal.invariant-loop-at

@@ -1,5 +1,5 @@
 -- No failure is forgotten.
-use Rattle.explain.specs.Prelude.{◌-◌, ◌≤◌}
+use Rattle.std.specs.Prelude.{◌-◌, ◌≤◌}
 use Rattle.explain.proofs.gains.Given as goal
 
 abbrev pub invariant-loop-i : goal.invariant-loop-i

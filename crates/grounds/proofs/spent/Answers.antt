@@ -1,5 +1,6 @@
 -- A turn that is neither lower nor higher is equal.
-use Rattle.grounds.specs.Prelude.{Bool, ◌∙◌, ◌≡◌, ◌≤◌, ap, arith, eq-eqb, eqb, false, highest, ltb, ltb-false, ltb-true, ne_eqb, not, refl, sym, true, ℕ}
+use Rattle.std.specs.Prelude.{◌≡◌, ◌≤◌}
+use Rattle.grounds.specs.Prelude.{Bool, ◌∙◌, ap, arith, eq-eqb, eqb, false, highest, ltb, ltb-false, ltb-true, ne_eqb, not, refl, sym, true, ℕ}
 use Rattle.grounds.proofs.spent.Goals as goal
 
 -- a number that is neither lower nor higher is equal

@@ -1,5 +1,6 @@
 -- The tests are the cases, in their order; a refusal leaves the list, and an accepted question lists who is in the way.
-use Rattle.hindering.specs.Prelude.{First, List, Listed, NoSuchJob, NotLive, Refusal, Row, Seen, ShortList, Surveyed, Table, UnsoundTable, ◌∙◌, ◌≡◌, ap, bounds_of, fine, le-leb, le-ltb, leaves_is, length, live, lt-leb, lt-ltb, none, not, not-false, number_of, outcome, outcome_is, over, past, refusal_tells, refused, row_in, seen_by_lem, sound, sound_by_lem, subst, surveyed_by, sym, this, true, ℕ}
+use Rattle.std.specs.Prelude.{◌≡◌}
+use Rattle.hindering.specs.Prelude.{First, List, Listed, NoSuchJob, NotLive, Refusal, Row, Seen, ShortList, Surveyed, Table, UnsoundTable, ◌∙◌, ap, bounds_of, fine, le-leb, le-ltb, leaves_is, length, live, lt-leb, lt-ltb, none, not, not-false, number_of, outcome, outcome_is, over, past, refusal_tells, refused, row_in, seen_by_lem, sound, sound_by_lem, subst, surveyed_by, sym, this, true, ℕ}
 use Rattle.hindering.specs.Hindering.{claimants_before, hinder_answer, hinder_cases, hinder_list, in_way_of}
 use Rattle.hindering.specs.Promises.{Hinders}
 use Rattle.hindering.specs.declared.Found.TheVariants as found

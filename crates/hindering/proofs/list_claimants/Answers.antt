@@ -1,6 +1,7 @@
 -- The loop keeps: the jobs written and the claimants still to come make up the list, and the rest is as it was.
+use Rattle.std.specs.Prelude.{◌&&◌, ◌<◌, ◌≡◌, ◌≤◌}
 use Rattle.std.proofs.Common.{rules}
-use Rattle.hindering.specs.Prelude.{◌&&◌, ◌<◌, ◌∙◌, ◌≡◌, ◌≤◌, ap, arith, claims_ahead, drop_of_length-le, get_or, jobs, keep, length, line, sym}
+use Rattle.hindering.specs.Prelude.{◌∙◌, ap, arith, claims_ahead, drop_of_length-le, get_or, jobs, keep, length, line, sym}
 use Rattle.hindering.specs.Hindering.{claimants_before}
 use Rattle.sweep.proofs.Jobs.{job_below, job_here, line_fits}
 use Rattle.sweep.proofs.Writing.{writing_done, writing_passed, writing_start, writing_written}

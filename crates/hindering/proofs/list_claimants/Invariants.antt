@@ -1,5 +1,6 @@
 -- The loop keeps: the jobs written and the claimants still to come make up the list, and the rest is as it was.
-use Rattle.hindering.specs.Prelude.{◌-◌, ◌≤◌, claims_ahead, line}
+use Rattle.std.specs.Prelude.{◌-◌, ◌≤◌}
+use Rattle.hindering.specs.Prelude.{claims_ahead, line}
 use Rattle.sweep.proofs.Writing.{Writing}
 use Rattle.hindering.proofs.list_claimants.Given as goal
 

@@ -1,5 +1,6 @@
 -- What holds of every sound table, and so of every table that calls lead to.
-use Rattle.kept.specs.Prelude.{◌&&◌, ◌<◌, Bool, List, Row, Table, ahead, and-eq-true_iff, ap, arith, claims, cond, count, count_at, count_same, count_some, dec_lt, distinct_test, earlier, false, false≢true, idle, in_way_ahead, in_way_at, in_way, inside_reads, live, ltb-true, meets, member, member_empty, min, refl, row_in, row_of, sound, sound_row, sym, token, true, waiting, waiting_reads, ℕ, ◌∙◌, ◌≡◌, ◌≤◌}
+use Rattle.std.specs.Prelude.{◌&&◌, ◌<◌, ◌≡◌, ◌≤◌}
+use Rattle.kept.specs.Prelude.{Bool, List, Row, Table, ahead, and-eq-true_iff, ap, arith, claims, cond, count, count_at, count_same, count_some, dec_lt, distinct_test, earlier, false, false≢true, idle, in_way_ahead, in_way_at, in_way, inside_reads, live, ltb-true, meets, member, member_empty, min, refl, row_in, row_of, sound, sound_row, sym, token, true, waiting, waiting_reads, ℕ, ◌∙◌}
 use Rattle.kept.specs.Words.{Alike}
 use Rattle.kept.specs.Sound.Words.{SoundTable, SameNumbers, seen, holds_token}
 use Rattle.kept.specs.Sound.Tests.{table_sound}

@@ -1,5 +1,6 @@
 -- A sound table in plain propositions: what the tests of `sound` say, and that they say no more.
-use Rattle.kept.specs.Prelude.{◌&&◌, ◌++◌, ◌<◌, Bool, List, Row, Table, all, all_each, ◌and◌, and_left, and_right, ap, arith, cond, counters, denied, denying, distinct, distinct_rows, distinct_test, each_all, eq-eqb, eqb-true, false, hold, holds, idle, idle_conditions, implied, implying, le-leb, le-ltb, le_of_eq, le-zero, leb, leb-true, live, lt-ltb, ltb, ltb-false, ltb-true, none, not, not-true, nth, or-false, or-true, own_conditions, place_conditions, ranges, refl, row_in, sound, sound_row, sym, true, waiting, waiting_reads, waiting_in, within, ◌||◌, ℕ, ◌∙◌, ◌≡◌, ◌≤◌}
+use Rattle.std.specs.Prelude.{◌&&◌, ◌++◌, ◌<◌, ◌||◌, ◌≡◌, ◌≤◌}
+use Rattle.kept.specs.Prelude.{Bool, List, Row, Table, all, all_each, ◌and◌, and_left, and_right, ap, arith, cond, counters, denied, denying, distinct, distinct_rows, distinct_test, each_all, eq-eqb, eqb-true, false, hold, holds, idle, idle_conditions, implied, implying, le-leb, le-ltb, le_of_eq, le-zero, leb, leb-true, live, lt-ltb, ltb, ltb-false, ltb-true, none, not, not-true, nth, or-false, or-true, own_conditions, place_conditions, ranges, refl, row_in, sound, sound_row, sym, true, waiting, waiting_reads, waiting_in, within, ℕ, ◌∙◌}
 use Rattle.kept.specs.Sound.Words.{LiveRow, SoundRow, InRange, SoundTable}
 
 -- ---- The propositions

@@ -1,5 +1,6 @@
 -- How the number ahead rises from turn to turn, and so how many live rows have fewer than T ahead.
-use Rattle.kept.specs.Prelude.{◌&&◌, ◌+◌, ◌<◌, Bool, List, Row, ahead, ahead_mono, and-eq-true_iff, arith, bears, bears_own, bears_turn, bit, count, count_at, count_mono, count_some, count_sum, dec_le, distinct, distinct_at, earlier, earlier_turn, eqb, eqb-false, eqb-true, false, idle, le_antisymm, le-ltb, le_of_eq, live, lt-ltb, ltb, ltb-false, ltb-true, min, not-suc-le-zero, refl, row_of, suc, token, true, turn_earlier, zero, ℕ, ◌∙◌, ◌≡◌, ◌≤◌}
+use Rattle.std.specs.Prelude.{◌&&◌, ◌+◌, ◌<◌, ◌≡◌, ◌≤◌}
+use Rattle.kept.specs.Prelude.{Bool, List, Row, ahead, ahead_mono, and-eq-true_iff, arith, bears, bears_own, bears_turn, bit, count, count_at, count_mono, count_some, count_sum, dec_le, distinct, distinct_at, earlier, earlier_turn, eqb, eqb-false, eqb-true, false, idle, le_antisymm, le-ltb, le_of_eq, live, lt-ltb, ltb, ltb-false, ltb-true, min, not-suc-le-zero, refl, row_of, suc, token, true, turn_earlier, zero, ℕ, ◌∙◌}
 use Rattle.kept.specs.Sound.Words.{holds_token}
 
 -- below the next number lie those below this one, and this one

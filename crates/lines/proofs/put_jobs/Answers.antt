@@ -1,5 +1,6 @@
 -- The loop keeps: the jobs before place i are written, and each took at most four bytes.
-use Rattle.lines.specs.Prelude.{◌≡◌, Wrote, arith, refl, subst, take, ℕ}
+use Rattle.std.specs.Prelude.{◌≡◌}
+use Rattle.lines.specs.Prelude.{Wrote, arith, refl, subst, take, ℕ}
 use Rattle.lines.specs.Lines.{items}
 use Rattle.lines.specs.PieceLaws.{item_pieces, putting_length, putting_more, putting_none}
 use Rattle.lines.proofs.put_jobs.Goals as goal

@@ -1,5 +1,5 @@
 -- The loop keeps: the jobs before place i are written, and each took at most four bytes.
-use Rattle.lines.specs.Prelude.{◌-◌, ◌≤◌}
+use Rattle.std.specs.Prelude.{◌-◌, ◌≤◌}
 use Rattle.lines.specs.Lines.{items}
 use Rattle.lines.specs.PieceLaws.{Putting}
 use Rattle.lines.proofs.put_jobs.Given as goal

@@ -1,5 +1,6 @@
 -- The one test is the one case.
-use Rattle.loading.specs.Prelude.{Bool, Next, ap, not, past, refl, said_of, sym, this, ◌&&◌, ◌∙◌}
+use Rattle.std.specs.Prelude.{◌&&◌}
+use Rattle.loading.specs.Prelude.{Bool, Next, ap, not, past, refl, said_of, sym, this, ◌∙◌}
 use Rattle.laws.specs.Chains.{none}
 use Rattle.loading.specs.LoadingLaws.{judged_is}
 use Rattle.loading.proofs.judged.Goals as goal

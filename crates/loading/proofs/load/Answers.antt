@@ -1,6 +1,7 @@
 -- The tests are the cases: where the version is unknown, or the size is that of another count of rows, only the order in which
 -- they are made differs. What is left, once no bit is set that must be 0, is judged.
-use Rattle.loading.specs.Prelude.{FileHead, First, List, Next, ap, arith, false, keep_unless, ltb, no_table, not, past, refl, said_of, saysDone, sym, this, true, unless, ℕ, ◌||◌, ◌∙◌, ◌≡◌}
+use Rattle.std.specs.Prelude.{◌||◌, ◌≡◌}
+use Rattle.loading.specs.Prelude.{FileHead, First, List, Next, ap, arith, false, keep_unless, ltb, no_table, not, past, refl, said_of, says_done, sym, this, true, unless, ℕ, ◌∙◌}
 use Rattle.service.specs.File.{bit_set, head_in, known, read_cases, table_in, wrong_size}
 use Rattle.loading.specs.LoadingLaws.{is_known, judged_loads, loaded_is, right_size, table_read_lem, too_short, unknown, wrong_size_lem, zeros_tested}
 use Rattle.loading.specs.Promises.{Loaded}
@@ -8,7 +9,7 @@ use Rattle.loading.proofs.load.Goals as goal
 use Rattle.loading.proofs.load.Goals.{After-take_rows-taken}
 
 -- a refusal that applies is given
-gives : (bs : List ℕ) {n : ℕ} {x r : Next} → r ≡ x → First (read_cases bs) n → said_of x.answer ≡ unless n saysDone → x.table ≡ keep_unless n no_table (table_in bs) → Loaded bs r
+gives : (bs : List ℕ) {n : ℕ} {x r : Next} → r ≡ x → First (read_cases bs) n → said_of x.answer ≡ unless n says_done → x.table ≡ keep_unless n no_table (table_in bs) → Loaded bs r
 gives bs e f a h = loaded_is bs f (ap (λ (y : Next). said_of y.answer) e ∙ a) (ap (λ (y : Next). y.table) e ∙ h)
 
 pub returns-then-file-lt-HEAD : goal.returns-then-file-lt-HEAD

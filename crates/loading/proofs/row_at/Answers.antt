@@ -1,5 +1,6 @@
 -- The row begins after the head and the rows before it.
-use Rattle.loading.specs.Prelude.{List, arith, drop, drop-drop, length, length-drop, subst, sym, take_all, ℕ, ◌*◌, ◌+◌, ◌-◌, ◌∙◌}
+use Rattle.std.specs.Prelude.{◌*◌, ◌+◌, ◌-◌}
+use Rattle.loading.specs.Prelude.{List, arith, drop, drop-drop, length, length-drop, subst, sym, take_all, ℕ, ◌∙◌}
 use Rattle.service.specs.File.{head_size, row_size}
 use Rattle.service.specs.Promises.{ReadRow}
 use Rattle.loading.proofs.row_at.Goals as goal

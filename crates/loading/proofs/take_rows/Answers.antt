@@ -1,5 +1,6 @@
 -- The loop keeps that what was taken and what is left come to what all rows of the file do.
-use Rattle.loading.specs.Prelude.{FileRow, List, Row, [], ap, arith, drop, idle, jobs, length-replicate, replicate, sub-zero, subst, sym, true, false, ℕ, ◌*◌, ◌+◌, ◌-◌, ◌<◌, ◌∙◌, ◌∷◌, ◌≡◌}
+use Rattle.std.specs.Prelude.{◌*◌, ◌+◌, ◌-◌, ◌<◌, ◌∷◌, ◌≡◌}
+use Rattle.loading.specs.Prelude.{FileRow, List, Row, [], ap, arith, drop, idle, jobs, length-replicate, replicate, sub-zero, subst, sym, true, false, ℕ, ◌∙◌}
 use Rattle.service.specs.File.{head_size, row_size, rows_in}
 use Rattle.service.specs.PlacingLaws.{rows_jobs, rows_left}
 use Rattle.loading.specs.LoadingLaws.{taking_end, taking_next, taking_start}

@@ -1,5 +1,6 @@
 -- The loop keeps that what was taken and what is left come to what all rows of the file do.
-use Rattle.loading.specs.Prelude.{FileRow, List, ℕ, ◌*◌, drop, ◌-◌, ◌≤◌}
+use Rattle.std.specs.Prelude.{◌*◌, ◌-◌, ◌≤◌}
+use Rattle.loading.specs.Prelude.{FileRow, List, ℕ, drop}
 use Rattle.service.specs.File.{head_size, row_size, rows_in}
 use Rattle.loading.specs.Taking.{Taking}
 use Rattle.loading.proofs.take_rows.Given as goal

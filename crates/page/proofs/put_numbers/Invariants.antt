@@ -1,5 +1,6 @@
 -- The loop keeps: the numbers before place i are written, and none took more than its room.
-use Rattle.page.specs.Prelude.{Putting, ◌-◌, ◌≤◌, items, length}
+use Rattle.std.specs.Prelude.{◌-◌, ◌≤◌}
+use Rattle.page.specs.Prelude.{Putting, items, length}
 use Rattle.page.specs.Page.{number_room}
 use Rattle.page.proofs.put_numbers.Given as goal
 

@@ -1,6 +1,7 @@
 -- The two tests are the two cases, in their order; the first line and the rows after it are the page.
+use Rattle.std.specs.Prelude.{◌≡◌}
 use Rattle.std.proofs.Common.{rules}
-use Rattle.page.specs.Prelude.{Bounds, First, Lines, List, Shown, Surveyed, Table, Wrote, ◌∙◌, ◌≡◌, ap, arith, bounds_of, fine, keep_unless, laid_front, leaves_is, le-ltb, length, line_fits, lt-ltb, none, not, not-false, outcome_is, over, past, refl, sound, sound_by_lem, subst, sym, then, this, unless, wrote_length, zero-add, ℕ}
+use Rattle.page.specs.Prelude.{Bounds, First, Lines, List, Shown, Surveyed, Table, Wrote, ◌∙◌, ap, arith, bounds_of, fine, keep_unless, laid_front, leaves_is, le-ltb, length, line_fits, lt-ltb, none, not, not-false, outcome_is, over, past, refl, sound, sound_by_lem, subst, sym, then, this, unless, wrote_length, zero-add, ℕ}
 use Rattle.page.specs.Meaning.{page_answer, page_cases, room_after, shown_of}
 use Rattle.page.specs.Page.{page}
 use Rattle.page.specs.Promises.{PutPage}

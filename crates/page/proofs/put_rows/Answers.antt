@@ -1,6 +1,7 @@
 -- The loop keeps: the lines of the jobs before place p are written, and none took more than its room.
+use Rattle.std.specs.Prelude.{◌<◌, ◌≡◌}
 use Rattle.std.proofs.Common.{rules}
-use Rattle.page.specs.Prelude.{List, Pieces, Row, ◌<◌, ◌≡◌, arith, get_or, job_below, job_here, jobs, length, line, line_fits, putting_all, putting_length, putting_more, putting_none, refl, row_of}
+use Rattle.page.specs.Prelude.{List, Pieces, Row, arith, get_or, job_below, job_here, jobs, length, line, line_fits, putting_all, putting_length, putting_more, putting_none, refl, row_of}
 use Rattle.page.specs.Page.{row_line, row_lines, row_room}
 use Rattle.page.proofs.put_rows.Goals as goal
 use Rattle.page.proofs.put_rows.Goals.{In-loop-p}

@@ -1,5 +1,6 @@
 -- The loop keeps: the lines of the jobs before place p are written, and none took more than its room.
-use Rattle.page.specs.Prelude.{Putting, ◌-◌, ◌≤◌, line}
+use Rattle.std.specs.Prelude.{◌-◌, ◌≤◌}
+use Rattle.page.specs.Prelude.{Putting, line}
 use Rattle.page.specs.Page.{row_lines, row_room}
 use Rattle.page.proofs.put_rows.Given as goal
 

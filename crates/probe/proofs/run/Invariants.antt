@@ -1,5 +1,5 @@
 -- The numbers that are left fall at each turn.
-use Rattle.probe.specs.Prelude.{◌-◌, ◌^◌, ◌≤◌}
+use Rattle.std.specs.Prelude.{◌-◌, ◌^◌, ◌≤◌}
 use Rattle.probe.proofs.run.Given as goal
 
 abbrev pub invariant-loop-more : goal.invariant-loop-more

@@ -1,6 +1,7 @@
 -- One history, computed: it meets every hypothesis of demand 3, with more than T-1 before the opening, a set that waits,
 -- three before it of whom two are in its way, a completion that wakes two, and refused events and a later request between.
-use Rattle.promises.specs.Prelude.{Ask, Beat, Bool, Complete, List, Open, Outcome, Report, Row, Said, Table, Tick, [], ◌++◌, ◌-◌, ◌∙◌, ◌∷◌, ◌≡◌, ahead, all, answer, ap, below, count, course, distinct, false, fine, first, idle, in_way, inside, jobs, keep, leaves, length, lined, live, meet, meets, next, outcome, place, refl, refused, replicate, report, row_in, run, saysWait, says_woke, settled, sound, start_answer, start_table, sym, true, under, union, woken, ℕ}
+use Rattle.std.specs.Prelude.{◌++◌, ◌-◌, ◌∷◌, ◌≡◌}
+use Rattle.promises.specs.Prelude.{Ask, Beat, Bool, Complete, List, Open, Outcome, Report, Row, Said, Table, Tick, [], ◌∙◌, ahead, all, answer, ap, below, count, course, distinct, false, fine, first, idle, in_way, inside, jobs, keep, leaves, length, lined, live, meet, meets, next, outcome, place, refl, refused, replicate, report, row_in, run, says_wait, says_woke, settled, sound, start_answer, start_table, sym, true, under, union, woken, ℕ}
 use Rattle.event.specs.declared.events.Event.{Event}
 use Rattle.promises.specs.Demand.Statement.{Demand3, Supposed, after_opening, n, now, p}
 use Rattle.promises.proofs.Demand.Holds.{demand3}
@@ -122,7 +123,7 @@ pub record Shown : Type 0 where
   -- three are then before it, two of them in the way; one of these completes, and the set waits on
   pub before : ahead token_come.rows 6 ≡ 3
   pub way : in_way token_come.rows 6 37 ≡ 2
-  pub told_since : answers token_come since ≡ refused 5 ∷ fine saysWait ∷ fine saysWait ∷ fine (says_woke 1) ∷ []
+  pub told_since : answers token_come since ≡ refused 5 ∷ fine says_wait ∷ fine says_wait ∷ fine (says_woke 1) ∷ []
   pub parted : partings 6 token_come since ≡ 1
   -- when the other completes too, it is listed
   pub wakes : lists set_waits (Complete 2 (at 7)) ≡ 3 ∷ 6 ∷ []

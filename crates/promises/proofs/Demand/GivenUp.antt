@@ -1,5 +1,6 @@
 -- What a request gives up is gone as long as it lives: nothing of it is declared or held again, or granted.
-use Rattle.promises.specs.Prelude.{Ask, Bool, GiveUp, List, Row, Table, Tick, ◌∙◌, ◌≡◌, ap, arith, case, cases, false, inside_reads, jobs, meets, meets_inside, meets_reads, member, next, not, refl, row_in, run, sym, true, without, without_inside, without_lost, ℕ}
+use Rattle.std.specs.Prelude.{◌≡◌}
+use Rattle.promises.specs.Prelude.{Ask, Bool, GiveUp, List, Row, Table, Tick, ◌∙◌, ap, arith, case, cases, false, inside_reads, jobs, meets, meets_inside, meets_reads, member, next, not, refl, row_in, run, sym, true, without, without_inside, without_lost, ℕ}
 use Rattle.event.specs.declared.events.Event.{Event}
 use Rattle.promises.specs.Demand.Statement.{GoneForGood}
 use Rattle.promises.specs.History.Words.{Bears, given_up, ours, taken}

@@ -1,5 +1,6 @@
 -- Demand 3 holds of every history.
-use Rattle.promises.specs.Prelude.{Ask, Bool, GiveUp, List, Open, Report, Table, Tick, ◌&&◌, ◌+◌, ◌-◌, ◌∙◌, ◌≡◌, ◌≤◌, acceptance_tells, ahead, ap, arith, bit, cond, count, earlier, earlier_turn, eqb, false, fine, idle, in_way, jobs, leb, length-replicate, live, ltb, meets, ne_eqb, not, refl, report, report_cases, reported, row_in, run, saysDone, saysToken, saysWait, start_answer, start_table, subst, sym, token, true, without, ℕ}
+use Rattle.std.specs.Prelude.{◌&&◌, ◌+◌, ◌-◌, ◌≡◌, ◌≤◌}
+use Rattle.promises.specs.Prelude.{Ask, Bool, GiveUp, List, Open, Report, Table, Tick, ◌∙◌, acceptance_tells, ahead, ap, arith, bit, cond, count, earlier, earlier_turn, eqb, false, fine, idle, in_way, jobs, leb, length-replicate, live, ltb, meets, ne_eqb, not, refl, report, report_cases, reported, row_in, run, says_done, says_token, says_wait, start_answer, start_table, subst, sym, token, true, without, ℕ}
 use Rattle.event.specs.declared.events.Event.{Event}
 use Rattle.promises.specs.Demand.Statement.{Demand3, HasParted, Supposed, after_opening, before, n, now}
 use Rattle.promises.proofs.Demand.GivenUp.{gone_for_good}
@@ -19,7 +20,7 @@ use Rattle.kept.specs.Sound.Tests.{ranges_in}
 
 -- ---- The start
 
-module _ (T R limit : ℕ) (started : start_answer T R limit ≡ fine saysDone) where
+module _ (T R limit : ℕ) (started : start_answer T R limit ≡ fine says_done) where
   some_token : 1 ≤ T
   some_token = (ranges_in T R limit (start_ranges T R limit started)).tokens.0
 
@@ -128,7 +129,7 @@ module _ (T R begin limit : ℕ) (past : List Event) (j : ℕ) (tick : Tick) (s 
       record {
         opening_says =
             answer_accepted jobs first_table (Open j tick s) open_ok
-            ∙ ap (λ (b : Bool). fine (cond b saysToken saysWait))
+            ∙ ap (λ (b : Bool). fine (cond b says_token says_wait))
             ((λ i. ltb (all_before first_table along_past j tick s open_ok i) (along_past.tokens i))
             ∙ below_at_most (count live first_table.rows) T some);
         token_comes = token_comes;

@@ -1,5 +1,6 @@
 -- Who enters a request's history and who does not: those in its way, later requests, refused events.
-use Rattle.promises.specs.Prelude.{Bool, List, Row, Table, [], ◌&&◌, ◌+◌, ◌-◌, ◌<◌, ◌∙◌, ◌∷◌, ◌≡◌, ◌≤◌, accepted, ahead, and_left, and-not_self, ap, ap₂, arith, bit, cond, count, course, eqb, false, gone, gone_none, idle, in_way_ahead, in_way, jobs, live, lt-ltb, ltb-true, next, not, refl, row_in, run, sym, token, true, true≢false, waiting, wakes, zero-add, ℕ}
+use Rattle.std.specs.Prelude.{◌&&◌, ◌+◌, ◌-◌, ◌<◌, ◌∷◌, ◌≡◌, ◌≤◌}
+use Rattle.promises.specs.Prelude.{Bool, List, Row, Table, [], ◌∙◌, accepted, ahead, and_left, and-not_self, ap, ap₂, arith, bit, cond, count, course, eqb, false, gone, gone_none, idle, in_way_ahead, in_way, jobs, live, lt-ltb, ltb-true, next, not, refl, row_in, run, sym, token, true, true≢false, waiting, wakes, zero-add, ℕ}
 use Rattle.event.specs.declared.events.Event.{Event}
 use Rattle.promises.specs.Demand.Statement.{Beside, Unmoved}
 use Rattle.promises.specs.History.Words.{Along, Bears, heeded, heeded_by, ours, taken, tally_of}

@@ -1,6 +1,7 @@
 -- A history of partings, computed: of three in the way of a request that has its token one completes, one gives up the last
 -- that they share, and from one it parts by its own give up; whoever has parted lowers the number no further.
-use Rattle.promises.specs.Prelude.{Ask, Complete, GiveUp, List, Open, Outcome, Report, Row, Table, Tick, [], ◌++◌, ◌∷◌, ◌≡◌, ahead, all, answer, below, count, course, distinct, false, fine, first, idle, in_way, inside, jobs, keep, leaves, lined, meet, meets, next, outcome, place, refl, refused, report, run, saysWait, says_woke, settled, sound, start_answer, start_table, true, under, union, without, woken, ℕ}
+use Rattle.std.specs.Prelude.{◌++◌, ◌∷◌, ◌≡◌}
+use Rattle.promises.specs.Prelude.{Ask, Complete, GiveUp, List, Open, Outcome, Report, Row, Table, Tick, [], ahead, all, answer, below, count, course, distinct, false, fine, first, idle, in_way, inside, jobs, keep, leaves, lined, meet, meets, next, outcome, place, refl, refused, report, run, says_wait, says_woke, settled, sound, start_answer, start_table, true, under, union, without, woken, ℕ}
 use Rattle.event.specs.declared.events.Event.{Event}
 use Rattle.promises.specs.Demand.Statement.{Demand3, Supposed, now}
 use Rattle.promises.proofs.Demand.Holds.{demand3}
@@ -82,7 +83,7 @@ pub record Shown : Type 0 where
   -- three are in its way, until 1 completes and 2 gives up what they shared; that wakes 4 and then 0, in order of turn
   pub three : report three_in_way 4 ≡ reporting 4 true false 3 3
   pub told_others :
-      answers three_in_way others_part ≡ fine (says_woke 1) ∷ fine saysWait ∷ fine saysWait ∷ refused 10 ∷ fine (says_woke 2) ∷ []
+      answers three_in_way others_part ≡ fine (says_woke 1) ∷ fine says_wait ∷ fine says_wait ∷ refused 10 ∷ fine (says_woke 2) ∷ []
   pub falls_by_others :
       reports three_in_way others_part
       ≡ reporting 4 true false 2 2

@@ -1,5 +1,6 @@
 -- The set that a request asks for: asked whole while an earlier-opened live request still declares a member, then held whole.
-use Rattle.promises.specs.Prelude.{◌&&◌, ◌<◌, Ask, Bool, List, Row, Table, Tick, [], accepted, ahead, answer, ap, arith, bit, blocked, case, cond, count, course, eqb, eqb-false, false, fine, in_way, jobs, lt-ltb, ltb, ltb-true, names, next, not, refl, row_in, run, subst, sym, token, true, true≢false, union, waiting, wakes, ℕ, ◌∙◌, ◌∷◌, ◌≡◌}
+use Rattle.std.specs.Prelude.{◌&&◌, ◌<◌, ◌∷◌, ◌≡◌}
+use Rattle.promises.specs.Prelude.{Ask, Bool, List, Row, Table, Tick, [], accepted, ahead, answer, ap, arith, bit, blocked, case, cond, count, course, eqb, eqb-false, false, fine, in_way, jobs, lt-ltb, ltb, ltb-true, names, next, not, refl, row_in, run, subst, sym, token, true, true≢false, union, waiting, wakes, ℕ, ◌∙◌}
 use Rattle.event.specs.declared.events.Event.{Event}
 use Rattle.arbiter.specs.Answers as Answers
 use Rattle.promises.specs.Demand.Statement.{AskedSet, Has}
@@ -131,10 +132,10 @@ module _ {T n j : ℕ} {t : Table} (b : Bears T n j t) (tick : Tick) (x : ℕ) (
   ask_has_token =
       lt-ltb (ahead t.rows n) T (rw (b.along.tokens, b.turn) at (acts jobs t (Ask j tick x) ok refl).has)
 
-  pub ask_says_lem : answer jobs t (Ask j tick x) ≡ fine (cond (blocked t.rows n x) Answers.saysWait Answers.saysGranted)
+  pub ask_says_lem : answer jobs t (Ask j tick x) ≡ fine (cond (blocked t.rows n x) Answers.says_wait Answers.says_granted)
   ask_says_lem =
       answer_accepted jobs t (Ask j tick x) ok
-      ∙ ap (λ (m : ℕ). fine (cond (blocked t.rows m x) Answers.saysWait Answers.saysGranted)) b.turn
+      ∙ ap (λ (m : ℕ). fine (cond (blocked t.rows m x) Answers.says_wait Answers.says_granted)) b.turn
 
   -- the ask itself moves nobody in or out of the way
   decided : blocked t.rows row.turn.0 x ≡ blocked asking.rows n x

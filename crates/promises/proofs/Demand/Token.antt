@@ -1,5 +1,6 @@
 -- The token of a request: it is opened with all live requests before it, and as many must complete as are too many.
-use Rattle.promises.specs.Prelude.{Ask, Beat, Bool, Complete, GiveUp, List, Open, Release, Row, Table, Tick, [], ◌&&◌, ◌+◌, ◌-◌, ◌<◌, ◌||◌, ◌∙◌, ◌∷◌, ◌≡◌, ◌≤◌, accepted, ahead, ahead_mono, and_left, and-true, ap, ap₂, arith, bit, blocked, cond, count, count_mono, course, earlier, either, eqb, false, get_or-set_same, idle, jobs, le_antisymm, le-leb, leb, leb-true, length, live, lt-ltb, ltb, ltb-false, ltb-true, names, next, not, opened_row, refl, row_in, run, same, subst, sym, time_at, token, true, turn_earlier, waiting, wakes, ℕ}
+use Rattle.std.specs.Prelude.{◌&&◌, ◌+◌, ◌-◌, ◌<◌, ◌||◌, ◌∷◌, ◌≡◌, ◌≤◌}
+use Rattle.promises.specs.Prelude.{Ask, Beat, Bool, Complete, GiveUp, List, Open, Release, Row, Table, Tick, [], ◌∙◌, accepted, ahead, ahead_mono, and_left, and-true, ap, ap₂, arith, bit, blocked, cond, count, count_mono, course, earlier, either, eqb, false, get_or-set_same, idle, jobs, le_antisymm, le-leb, leb, leb-true, length, live, lt-ltb, ltb, ltb-false, ltb-true, names, next, not, opened_row, refl, row_in, run, same, subst, sym, time_at, token, true, turn_earlier, waiting, wakes, ℕ}
 use Rattle.event.specs.declared.events.Event.{Event}
 use Rattle.promises.specs.History.Words.{completing_by, completions, lists, taken, Along, Bears, tally_of}
 use Rattle.promises.proofs.History.Events.{next_either}

@@ -1,5 +1,6 @@
 -- Counts over whole histories: as many as there were, less those that completed.
-use Rattle.promises.specs.Prelude.{Ask, Beat, Bool, Complete, GiveUp, List, Open, Release, Row, Table, [], ◌+◌, ◌<◌, ◌∙◌, ◌∷◌, ◌≡◌, ◌≤◌, about, accepted, ahead, ahead_set, ahead_settled, ap, arith, bit, cond, course, earlier, false, giving_up, idle, in_way, jobs, live_within, next, opens, refl, row_in, run, set, settled, sym, true, zero-add, ℕ}
+use Rattle.std.specs.Prelude.{◌+◌, ◌<◌, ◌∷◌, ◌≡◌, ◌≤◌}
+use Rattle.promises.specs.Prelude.{Ask, Beat, Bool, Complete, GiveUp, List, Open, Release, Row, Table, [], ◌∙◌, about, accepted, ahead, ahead_set, ahead_settled, ap, arith, bit, cond, course, earlier, false, giving_up, idle, in_way, jobs, live_within, next, opens, refl, row_in, run, set, settled, sym, true, zero-add, ℕ}
 use Rattle.event.specs.declared.events.Event.{Event}
 use Rattle.promises.proofs.History.Events.{next_either}
 use Rattle.promises.specs.History.Words.{Along, completing_by, completions, taken, tally_of}

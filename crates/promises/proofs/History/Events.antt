@@ -1,5 +1,6 @@
 -- Whole histories: which events are accepted, what they leave, and whom they list as woken.
-use Rattle.promises.specs.Prelude.{◌++◌, Bool, Case, List, Table, [], about, accepted, answer, ap, applies, refusals_of, calling, cases, cases_by, cond, false, false≢true, first, job_of, jobs, keep_unless, le-ltb, leaves, length, list_cases, listed, next, outcome, over, refl, said, set_of, suc, tick_of, true, unless, wakes, zero, ℕ, ◌∙◌, ◌≡◌, ◌≤◌}
+use Rattle.std.specs.Prelude.{◌++◌, ◌≡◌, ◌≤◌}
+use Rattle.promises.specs.Prelude.{Bool, Case, List, Table, [], about, accepted, answer, ap, applies, refusals_of, calling, cases, cases_by, cond, false, false≢true, first, job_of, jobs, keep_unless, le-ltb, leaves, length, list_cases, listed, next, outcome, over, refl, said, set_of, suc, tick_of, true, unless, wakes, zero, ℕ, ◌∙◌}
 use Rattle.event.specs.declared.events.Event.{Event}
 use Rattle.kept.specs.Words.{Accepts}
 use Rattle.promises.specs.History.Words.{is_fine, lists, taken}

@@ -1,5 +1,6 @@
 -- How many are in the way of a request, along a history: as many as there were, less those that parted from it.
-use Rattle.promises.specs.Prelude.{Ask, Beat, Bool, Complete, GiveUp, List, Open, Release, Row, Table, Tick, Turn, [], ◌&&◌, ◌+◌, ◌<◌, ◌∙◌, ◌∷◌, ◌≡◌, about, accepted, and-false, and_right, ap, arith, bit, claims, cond, count, count_sum, course, earlier, earlier_turn, eq-eqb, eqb, eqb-true, false, get_or-set_same, giving_up, idle, in_way_set, in_way_settled, in_way, jobs, live_within, meets, meets_comm, meets_without, next, not, not_earlier, not-true, refl, row_in, run, set, settled, subst, sym, true, turn_settled, without, without_apart, without_none, zero-add, ℕ}
+use Rattle.std.specs.Prelude.{◌&&◌, ◌+◌, ◌<◌, ◌∷◌, ◌≡◌}
+use Rattle.promises.specs.Prelude.{Ask, Beat, Bool, Complete, GiveUp, List, Open, Release, Row, Table, Tick, Turn, [], ◌∙◌, about, accepted, and-false, and_right, ap, arith, bit, claims, cond, count, count_sum, course, earlier, earlier_turn, eq-eqb, eqb, eqb-true, false, get_or-set_same, giving_up, idle, in_way_set, in_way_settled, in_way, jobs, live_within, meets, meets_comm, meets_without, next, not, not_earlier, not-true, refl, row_in, run, set, settled, subst, sym, true, turn_settled, without, without_apart, without_none, zero-add, ℕ}
 use Rattle.event.specs.declared.events.Event.{Event}
 use Rattle.promises.proofs.History.Events.{next_either}
 use Rattle.promises.specs.History.Words.{Along, Parts, by_completion, by_give_up, by_own, given_up, given_up_by, in_its_way, parting_by, partings, parts_by_other, parts_by_own, taken, tally_of}

@@ -1,5 +1,6 @@
 -- What an accepted event does to the row of a job that it does not name: the sweep, by the rows after it, and no more.
-use Rattle.promises.specs.Prelude.{◌&&◌, ◌<◌, Bool, List, Row, Table, accepted, ap, ap₂, arith, blocked, cond, false, granted_keeps, granted_row, in_way, jobs, live, lt-ltb, ltb, ltb-false, names, not, refl, rested_row, row_in, subst, swept_keeps, swept_row, sym, token, true, true≢false, union, union_empty, waiting, waiting_reads, ◌||◌, ℕ, ◌∙◌, ◌≡◌}
+use Rattle.std.specs.Prelude.{◌&&◌, ◌<◌, ◌||◌, ◌≡◌}
+use Rattle.promises.specs.Prelude.{Bool, List, Row, Table, accepted, ap, ap₂, arith, blocked, cond, false, granted_keeps, granted_row, in_way, jobs, live, lt-ltb, ltb, ltb-false, names, not, refl, rested_row, row_in, subst, swept_keeps, swept_row, sym, token, true, true≢false, union, union_empty, waiting, waiting_reads, ℕ, ◌∙◌}
 use Rattle.event.specs.declared.events.Event.{Event}
 use Rattle.promises.specs.History.Words.{Bears}
 use Rattle.promises.proofs.History.Count.{along_accepted}

@@ -1,5 +1,6 @@
 -- True time is real time, on a table and along any sequence of events.
-use Rattle.promises.specs.Prelude.{List, Table, [], accepted, ap, arith, cond, course, map, refl, run, sym, tick_of, time_at, ℕ, ◌∙◌, ◌∷◌, ◌≡◌}
+use Rattle.std.specs.Prelude.{◌∷◌, ◌≡◌}
+use Rattle.promises.specs.Prelude.{List, Table, [], accepted, ap, arith, cond, course, map, refl, run, sym, tick_of, time_at, ℕ, ◌∙◌}
 use Rattle.event.specs.declared.events.Event.{Event}
 use Rattle.event.specs.Clock.{Often, latest, shown, then}
 use Rattle.event.specs.ClockLaws.{moved_on}

@@ -1,6 +1,7 @@
 -- Whose row it is: a row that bears a turn at the end of a history has borne it since that turn was given, and declares what it
 -- did, without what it has given up.
-use Rattle.promises.specs.Prelude.{Ask, Beat, Bool, Complete, GiveUp, List, Open, Release, Row, Table, Tick, [], ◌<◌, ◌∙◌, ◌∷◌, ◌≡◌, about, accepted, ap, arith, cond, course, eqb, eqb-true, false, false≢true, jobs, next, refl, row_in, run, set_of, subst, sym, true, without, without_none, without_twice, ℕ}
+use Rattle.std.specs.Prelude.{◌<◌, ◌∷◌, ◌≡◌}
+use Rattle.promises.specs.Prelude.{Ask, Beat, Bool, Complete, GiveUp, List, Open, Release, Row, Table, Tick, [], ◌∙◌, about, accepted, ap, arith, cond, course, eqb, eqb-true, false, false≢true, jobs, next, refl, row_in, run, set_of, subst, sym, true, without, without_none, without_twice, ℕ}
 use Rattle.event.specs.declared.events.Event.{Event}
 use Rattle.promises.proofs.History.Events.{next_either}
 use Rattle.promises.specs.History.Words.{Along, given_up, given_up_by, given_up_of, taken}

@@ -1,5 +1,6 @@
 -- Whom an accepted event wakes: a job that waits before it and not after it is listed once, and no other.
-use Rattle.promises.specs.Prelude.{◌&&◌, Bool, Table, accepted, ap, bit, count, eqb, false, jobs, listed_once, names, refl, row_in, sym, true, waiting, wakes, woke, woken, ℕ, ◌∙◌, ◌≡◌}
+use Rattle.std.specs.Prelude.{◌&&◌, ◌≡◌}
+use Rattle.promises.specs.Prelude.{Bool, Table, accepted, ap, bit, count, eqb, false, jobs, listed_once, names, refl, row_in, sym, true, waiting, wakes, woke, woken, ℕ, ◌∙◌}
 use Rattle.event.specs.declared.events.Event.{Event}
 use Rattle.promises.specs.History.Words.{Bears}
 use Rattle.promises.proofs.History.Row.{bears_after, lives}

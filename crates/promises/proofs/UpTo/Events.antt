@@ -1,6 +1,7 @@
 -- What an event does to the requests of turns up to n: none of another changes anything of theirs, and whom it wakes among
 -- them is said by their rows alone.
-use Rattle.promises.specs.Prelude.{◌&&◌, ◌+◌, Bool, Table, [], about, accepted, ap, arith, cond, course, earlier_turn, eqb, eqb-true, ext_get_or, false, false≢true, has_job, idle, job_of, jobs, keep, length-map, lt-ltb, ltb-true, next, refl, row_in, sym, true, true≢false, turn_earlier, wakes, woken, ℕ, ◌∙◌, ◌∷◌, ◌≡◌}
+use Rattle.std.specs.Prelude.{◌&&◌, ◌+◌, ◌∷◌, ◌≡◌}
+use Rattle.promises.specs.Prelude.{Bool, Table, [], about, accepted, ap, arith, cond, course, earlier_turn, eqb, eqb-true, ext_get_or, false, false≢true, has_job, idle, job_of, jobs, keep, length-map, lt-ltb, ltb-true, next, refl, row_in, sym, true, true≢false, turn_earlier, wakes, woken, ℕ, ◌∙◌}
 use Rattle.event.specs.declared.events.Event.{Event}
 use Rattle.promises.specs.Demand.Statement.{Beside}
 use Rattle.promises.proofs.Demand.Others.{unmoved}

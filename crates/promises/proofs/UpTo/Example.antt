@@ -1,6 +1,7 @@
 -- With and without a latecomer: in the history of Demand/Example job 7 opens, or only the clock moves. What jobs 1 to 6 live
 -- through is the same from then on.
-use Rattle.promises.specs.Prelude.{Ask, Beat, GiveUp, List, Table, [], ahead, all, answer, arith, below, count, course, distinct, first, in_way, inside, jobs, keep, leaves, lined, meet, meets, next, outcome, place, refl, run, settled, sound, start_table, true, under, union, without, woken, ℕ, ◌∷◌, ◌≡◌}
+use Rattle.std.specs.Prelude.{◌∷◌, ◌≡◌}
+use Rattle.promises.specs.Prelude.{Ask, Beat, GiveUp, List, Table, [], ahead, all, answer, arith, below, count, course, distinct, first, in_way, inside, jobs, keep, leaves, lined, meet, meets, next, outcome, place, refl, run, settled, sound, start_table, true, under, union, without, woken, ℕ}
 use Rattle.event.specs.declared.events.Event.{Event}
 use Rattle.promises.specs.Demand.Statement.{after_opening}
 use Rattle.promises.proofs.Demand.Example.{all_open, at, this}

@@ -1,5 +1,6 @@
 -- Requests of turns up to n: what they live through depends on the rows of turns up to n alone. The proof.
-use Rattle.promises.specs.Prelude.{◌+◌, ◌++◌, Ask, Beat, Bool, Case, Complete, GiveUp, List, Open, Release, Row, Table, TurnsSpent, [], about, accepted, among, answer, ap, arith, refusals_of, cases, cond, course, earlier_turn, false, false≢true, giving_up, has_job, job_of, jobs, keep, last_after, late_in, late_job, length, line, list_cases, moved, next, outcome, refl, releasing, row_after, row_in, rows_after, rows_with, run, saysDone, saysGranted, saysWait, says_woke, set, set_of, settled, sound, sym, tick_of, time_at, true, union, wakes, woken, ℕ, ◌∙◌, ◌∷◌, ◌≡◌}
+use Rattle.std.specs.Prelude.{◌+◌, ◌++◌, ◌∷◌, ◌≡◌}
+use Rattle.promises.specs.Prelude.{Ask, Beat, Bool, Case, Complete, GiveUp, List, Open, Release, Row, Table, TurnsSpent, [], about, accepted, among, answer, ap, arith, refusals_of, cases, cond, course, earlier_turn, false, false≢true, giving_up, has_job, job_of, jobs, keep, last_after, late_in, late_job, length, line, list_cases, moved, next, outcome, refl, releasing, row_after, row_in, rows_after, rows_with, run, says_done, says_granted, says_wait, says_woke, set, set_of, settled, sound, sym, tick_of, time_at, true, union, wakes, woken, ℕ, ◌∙◌}
 use Rattle.event.specs.declared.events.Event.{Event}
 use Rattle.promises.proofs.History.Events.{accepts}
 use Rattle.promises.specs.History.Words.{is_fine, taken, Along}
@@ -38,8 +39,8 @@ module _ {T n : ℕ} {t u : Table} (along-t : Along T n t) (along-u : Along T n 
   answered (Beat tick) in-t = absurd (false≢true in-t)
   answered (Open j tick s) in-t = ap but_number (same_open a j in-t sound-t sound-u tick s)
   answered (Ask j tick s) in-t =
-      λ i. but_number (outcome (same_event (Ask j tick s) in-t refl i) (cond (same_blocked a j in-t s i) saysWait saysGranted))
-  answered (Release j tick s) in-t = λ i. but_number (outcome (same_event (Release j tick s) in-t refl i) saysDone)
+      λ i. but_number (outcome (same_event (Ask j tick s) in-t refl i) (cond (same_blocked a j in-t s i) says_wait says_granted))
+  answered (Release j tick s) in-t = λ i. but_number (outcome (same_event (Release j tick s) in-t refl i) says_done)
   answered (Complete j tick) in-t = answered_woken (Complete j tick) in-t refl
   answered (GiveUp j tick s) in-t = answered_woken (GiveUp j tick s) in-t refl
 

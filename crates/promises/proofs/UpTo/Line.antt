@@ -1,5 +1,6 @@
 -- The jobs of turns up to n in line, and those of them that are woken, are those of the rows up to n alone.
-use Rattle.promises.specs.Prelude.{◌&&◌, ◌+◌, ◌-◌, ◌<◌, Bool, InTurn, List, Row, [], and-false, and-not_self, and-true, ap, arith, cond, earlier, earlier_turn, false, fun_ext, get_or, idle, keep, late_job, leb, length, length-map, line, lined, lined_in_turn, live, lt-ltb, ltb, ltb-true, not, not_earlier, place, refl, row_of, sym, true, true≢false, turn_earlier, under, waiting, woke, woken, ℕ, ◌∙◌, ◌∷◌, ◌≡◌}
+use Rattle.std.specs.Prelude.{◌&&◌, ◌+◌, ◌-◌, ◌<◌, ◌∷◌, ◌≡◌}
+use Rattle.promises.specs.Prelude.{Bool, InTurn, List, Row, [], and-false, and-not_self, and-true, ap, arith, cond, earlier, earlier_turn, false, fun_ext, get_or, idle, keep, late_job, leb, length, length-map, line, lined, lined_in_turn, live, lt-ltb, ltb, ltb-true, not, not_earlier, place, refl, row_of, sym, true, true≢false, turn_earlier, under, waiting, woke, woken, ℕ, ◌∙◌}
 use Rattle.kept.specs.Woken.{keep_none}
 use Rattle.kept.specs.Sound.Words.{seen}
 use Rattle.promises.specs.UpTo.Statement.{up_to}

@@ -1,5 +1,6 @@
 -- What the rows of turns up to n decide: who stands before, what is in the way, who waits, what a sweep leaves.
-use Rattle.promises.specs.Prelude.{◌+◌, Bool, List, List·getD-map, Row, [], ap, arith, cond, earlier, earlier_turn, false, fun_ext, idle, map, map-map, refl, row_of, set, settled, suc, swept_idle, swept_keeps, swept_row, sym, true, true≢false, turn_earlier, waiting, zero, ℕ, ◌∙◌, ◌∷◌, ◌≡◌, ◌≤◌}
+use Rattle.std.specs.Prelude.{◌+◌, ◌∷◌, ◌≡◌, ◌≤◌}
+use Rattle.promises.specs.Prelude.{Bool, List, List·getD-map, Row, [], ap, arith, cond, earlier, earlier_turn, false, fun_ext, idle, map, map-map, refl, row_of, set, settled, suc, swept_idle, swept_keeps, swept_row, sym, true, true≢false, turn_earlier, waiting, zero, ℕ, ◌∙◌}
 use Rattle.promises.proofs.History.Row.{swept_alike}
 use Rattle.kept.specs.Words.{Alike}
 use Rattle.kept.specs.Rows.{waiting_alike}

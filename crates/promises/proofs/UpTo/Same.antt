@@ -1,6 +1,7 @@
 -- What is the same on two tables that agree up to turn n: the row of each request up to n, who stands before it, what is in
 -- its way, and so what it is answered.
-use Rattle.promises.specs.Prelude.{◌&&◌, ◌+◌, ◌++◌, ◌<◌, AlreadyHeld, AlreadyLive, BadStart, BitSet, Bool, Case, ClockGoneBack, ClockLeap, EmptySet, List, NoSuchJob, NoSuchResource, NoToken, NotDeclared, NotHeld, NotLive, Open, Outcome, Refusal, Row, Said, ShortList, StartOutOfPlace, StillWaiting, Table, Tick, TimeSpent, TurnsSpent, UnknownKind, UnknownVersion, UnsoundTable, WrongLength, WrongSize, [], about, ahead, among, and_left, answer, ap, applies, arith, below, blocked, calling, cases_by, clock_refusals, difference, earlier, earlier_turn, eqb, false, fine, first, first_front, gone_back, has_job, in_way, inside, job_of, jobs, leapt, leb, live, lt_irrefl, ltb, meets, not, number_of, outcome, refl, refused, refusing, report, row_in, row_of, said, saysDone, saysGranted, saysToken, saysWait, says_woke, some_first, sound, suc, sym, time_at, time_spent, true, true≢false, unless, when, zero, ◌||◌, ℕ, ◌∙◌, ◌∷◌, ◌≡◌, ◌≤◌}
+use Rattle.std.specs.Prelude.{◌&&◌, ◌+◌, ◌++◌, ◌<◌, ◌||◌, ◌∷◌, ◌≡◌, ◌≤◌}
+use Rattle.promises.specs.Prelude.{AlreadyHeld, AlreadyLive, BadStart, BitSet, Bool, Case, ClockGoneBack, ClockLeap, EmptySet, List, NoSuchJob, NoSuchResource, NoToken, NotDeclared, NotHeld, NotLive, Open, Outcome, Refusal, Row, Said, ShortList, StartOutOfPlace, StillWaiting, Table, Tick, TimeSpent, TurnsSpent, UnknownKind, UnknownVersion, UnsoundTable, WrongLength, WrongSize, [], about, ahead, among, and_left, answer, ap, applies, arith, below, blocked, calling, cases_by, clock_refusals, difference, earlier, earlier_turn, eqb, false, fine, first, first_front, gone_back, has_job, in_way, inside, job_of, jobs, leapt, leb, live, lt_irrefl, ltb, meets, not, number_of, outcome, refl, refused, refusing, report, row_in, row_of, said, says_done, says_granted, says_token, says_wait, says_woke, some_first, sound, suc, sym, time_at, time_spent, true, true≢false, unless, when, zero, ℕ, ◌∙◌}
 use Rattle.event.specs.declared.events.Event.{Event}
 use Rattle.promises.specs.History.Words.{is_fine}
 use Rattle.kept.specs.Sound.Words.{seen}
@@ -151,8 +152,8 @@ but_number_lem cs k k' = go (first cs)
 
 pub fine_but_number : (o : Outcome Said) → is_fine (but_number o) ≡ is_fine o
 fine_but_number (refused k) = refl
-fine_but_number (fine saysToken) = refl
-fine_but_number (fine saysGranted) = refl
-fine_but_number (fine saysWait) = refl
-fine_but_number (fine saysDone) = refl
+fine_but_number (fine says_token) = refl
+fine_but_number (fine says_granted) = refl
+fine_but_number (fine says_wait) = refl
+fine_but_number (fine says_done) = refl
 fine_but_number (fine (says_woke k)) = refl

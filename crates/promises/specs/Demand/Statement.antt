@@ -9,7 +9,7 @@ use Rattle.laws.specs.Lists.{count}
 use Rattle.laws.specs.Sets.{meets, union, without}
 use Rattle.rows.specs.Order.{ahead, blocked, earlier, in_way, live, token}
 use Rattle.rows.specs.declared.row.Row.{Row}
-use Rattle.arbiter.specs.Answers.{saysDone, saysGranted, saysToken, saysWait}
+use Rattle.arbiter.specs.Answers.{says_done, says_granted, says_token, says_wait}
 use Rattle.arbiter.specs.Meaning.{course, start_answer, start_table}
 use Rattle.arbiter.specs.declared.table.Report.{Report}
 use Rattle.arbiter.specs.declared.table.Table.{Table}
@@ -93,7 +93,7 @@ module _ (a : Arbiter) (T R begin limit : ℕ) (past : List Event) (j : ℕ) (ti
   -- all that is supposed: the start and the opening are accepted, and the request is still live; of a request that an arbiter
   -- drops nothing is said here, but what `next` makes of a row is no open question (demand 2)
   pub record Supposed : Type 0 where
-    pub started : start_answer T R limit ≡ fine saysDone
+    pub started : start_answer T R limit ≡ fine says_done
     pub accepted : takes a before (Open j tick s) ≡ true
     pub lives : (row_in now j).turn.0 ≡ n
 
@@ -101,7 +101,7 @@ module _ (a : Arbiter) (T R begin limit : ℕ) (past : List Event) (j : ℕ) (ti
   pub record Demand3 : Type 0 where
     -- the token: at once if at most T-1 stand before it, else with the completion that leaves so few;
     -- that event lists the job as woken, once, and none before it does
-    pub opening_says : a.answer before (Open j tick s) ≡ fine (cond (leb p (T - 1)) saysToken saysWait)
+    pub opening_says : a.answer before (Open j tick s) ≡ fine (cond (leb p (T - 1)) says_token says_wait)
     pub token_comes : token T now.rows n ≡ leb (p - (T - 1)) (completions_of a live after_opening later)
     pub token_reported :
         (r : Report) → a.report now j ≡ fine r → r.token ≡ leb (p - (T - 1)) (completions_of a live after_opening later)
@@ -112,7 +112,7 @@ module _ (a : Arbiter) (T R begin limit : ℕ) (past : List Event) (j : ℕ) (ti
     pub ask_has_token : (at : Tick) (x : ℕ) → takes a now (Ask j at x) ≡ true → token T now.rows n ≡ true
     pub ask_says_lem :
         (at : Tick) (x : ℕ) → takes a now (Ask j at x) ≡ true →
-        a.answer now (Ask j at x) ≡ fine (cond (blocked now.rows n x) saysWait saysGranted)
+        a.answer now (Ask j at x) ≡ fine (cond (blocked now.rows n x) says_wait says_granted)
     pub ask_granted :
         (at : Tick) (x : ℕ) → takes a now (Ask j at x) ≡ true →
         AskedSet a j n x (row_in now j).held (a.next now (Ask j at x))

@@ -9,7 +9,7 @@ use Rattle.rows.specs.Line.{keep}
 use Rattle.event.specs.Limits.{jobs}
 use Rattle.rows.specs.Order.{earlier}
 use Rattle.rows.specs.declared.row.Row.{Row}
-use Rattle.arbiter.specs.Answers.{Said, saysDone, saysGranted, saysToken, saysWait, says_woke}
+use Rattle.arbiter.specs.Answers.{Said, says_done, says_granted, says_token, says_wait, says_woke}
 use Rattle.arbiter.specs.Meaning.{answer, late, next, report}
 use Rattle.arbiter.specs.declared.table.Table.{Table}
 use Rattle.promises.specs.History.Words.{lists, taken}
@@ -39,10 +39,10 @@ of_them n t e = has_job (about e).role && is_of_them n t (job_of e)
 -- an answer without the number that a completion or a give up woke, in which later requests count
 abbrev pub but_number : Outcome Said → Outcome Said
 but_number (refused k) = refused k
-but_number (fine saysToken) = fine saysToken
-but_number (fine saysGranted) = fine saysGranted
-but_number (fine saysWait) = fine saysWait
-but_number (fine saysDone) = fine saysDone
+but_number (fine says_token) = fine says_token
+but_number (fine says_granted) = fine says_granted
+but_number (fine says_wait) = fine says_wait
+but_number (fine says_done) = fine says_done
 but_number (fine (says_woke k)) = fine (says_woke 0)
 
 -- an event on two such tables

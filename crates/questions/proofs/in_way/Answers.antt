@@ -1,6 +1,7 @@
 -- The loop keeps: of the jobs passed n are of lower turn and declare some member.
+use Rattle.std.specs.Prelude.{◌&&◌, ◌<◌, ◌≡◌, ◌≤◌}
 use Rattle.std.proofs.Common.{rules}
-use Rattle.questions.specs.Prelude.{◌&&◌, ◌<◌, ◌∙◌, ◌≡◌, ◌≤◌, arith, get_or, jobs, length, line, sym}
+use Rattle.questions.specs.Prelude.{◌∙◌, arith, get_or, jobs, length, line, sym}
 use Rattle.questions.specs.InCode.{claims_ahead}
 use Rattle.questions.specs.QuestionLaws.{in_way_line}
 use Rattle.questions.proofs.Counting.{counting_end, counting_fits, counting_none, counting_one, counting_start}

@@ -1,5 +1,6 @@
 -- The loop keeps: of the jobs passed n are of lower turn and declare some member.
-use Rattle.questions.specs.Prelude.{◌-◌, line}
+use Rattle.std.specs.Prelude.{◌-◌}
+use Rattle.questions.specs.Prelude.{line}
 use Rattle.questions.specs.InCode.{claims_ahead}
 use Rattle.questions.proofs.Counting.{Counting}
 use Rattle.questions.proofs.in_way.Given as goal

@@ -1,6 +1,7 @@
 -- The loop keeps: the jobs written and the late ones still to come make up the list, and the rest is as it was.
+use Rattle.std.specs.Prelude.{◌<◌, ◌≡◌, ◌≤◌}
 use Rattle.std.proofs.Common.{rules}
-use Rattle.questions.specs.Prelude.{Bool, Listed, ◌<◌, ◌∙◌, ◌≡◌, ◌≤◌, ap, arith, drop_of_length-le, get_or, jobs, keep, length, line, sound_distinct, sound_limit, subst, sym, ℕ}
+use Rattle.questions.specs.Prelude.{Bool, Listed, ◌∙◌, ap, arith, drop_of_length-le, get_or, jobs, keep, length, line, sound_distinct, sound_limit, subst, sym, ℕ}
 use Rattle.questions.specs.InCode.{waits_before}
 use Rattle.questions.specs.Late.{late_in}
 use Rattle.questions.specs.QuestionLaws.{late_before, late_place}

@@ -1,5 +1,6 @@
 -- The loop keeps: the jobs written and the late ones still to come make up the list, and the rest is as it was.
-use Rattle.questions.specs.Prelude.{◌-◌, ◌≤◌, line}
+use Rattle.std.specs.Prelude.{◌-◌, ◌≤◌}
+use Rattle.questions.specs.Prelude.{line}
 use Rattle.questions.specs.InCode.{waits_before}
 use Rattle.sweep.proofs.Writing.{Writing}
 use Rattle.questions.proofs.list_late.Given as goal

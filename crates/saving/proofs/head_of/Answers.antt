@@ -1,5 +1,6 @@
 -- The length of the line is the count; the rest is as the table has it.
-use Rattle.saving.specs.Prelude.{ap, ℕ, ◌-◌}
+use Rattle.std.specs.Prelude.{◌-◌}
+use Rattle.saving.specs.Prelude.{ap, ℕ}
 use Rattle.service.specs.File.{version}
 use Rattle.saving.proofs.head_of.Goals as goal
 

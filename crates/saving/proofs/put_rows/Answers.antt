@@ -1,6 +1,7 @@
 -- The loop keeps what is to come: the rows left, laid from where the next one goes, make the whole.
+use Rattle.std.specs.Prelude.{◌+◌, ◌<◌, ◌≡◌, ◌≤◌}
 use Rattle.std.proofs.Common.{rules}
-use Rattle.saving.specs.Prelude.{List, [], ap, arith, drop, drop_of_length-le, get_or, jobs, laid, laid_front, laid_none, laid_part, length, length_laid, length_pack, refl, sym, ℕ, ◌+◌, ◌<◌, ◌∙◌, ◌≡◌, ◌≤◌}
+use Rattle.saving.specs.Prelude.{List, [], ap, arith, drop, drop_of_length-le, get_or, jobs, laid, laid_front, laid_none, laid_part, length, length_laid, length_pack, refl, sym, ℕ, ◌∙◌}
 use Rattle.service.specs.File.{row_bytes, row_order, row_size, row_widths, rows_bytes, rows_said}
 use Rattle.rows.specs.Line.{line}
 use Rattle.saving.specs.SavingLaws.{row_put}

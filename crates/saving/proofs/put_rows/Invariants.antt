@@ -1,5 +1,6 @@
 -- The loop keeps what is to come: the rows left, laid from where the next one goes, make the whole.
-use Rattle.saving.specs.Prelude.{drop, laid, length, ◌*◌, ◌-◌, ◌≡◌, ◌≤◌}
+use Rattle.std.specs.Prelude.{◌*◌, ◌-◌, ◌≡◌, ◌≤◌}
+use Rattle.saving.specs.Prelude.{drop, laid, length}
 use Rattle.service.specs.File.{row_size, rows_bytes, rows_said}
 use Rattle.rows.specs.Line.{line}
 use Rattle.saving.proofs.put_rows.Given as goal

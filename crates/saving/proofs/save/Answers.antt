@@ -1,6 +1,7 @@
 -- The tests are the cases, in their order; head and rows make the file.
+use Rattle.std.specs.Prelude.{◌*◌, ◌+◌, ◌-◌, ◌≡◌, ◌≤◌}
 use Rattle.std.proofs.Common.{rules}
-use Rattle.saving.specs.Prelude.{Bounds, Table, ap, arith, drop, fine, jobs, laid_part, le-ltb, length, length-drop, length-take-le, lt-ltb, not, not-false, over, past, refl, sound_by, sym, this, true, ◌*◌, ◌+◌, ◌-◌, ◌∙◌, ◌≡◌, ◌≤◌}
+use Rattle.saving.specs.Prelude.{Bounds, Table, ap, arith, drop, fine, jobs, laid_part, le-ltb, length, length-drop, length-take-le, lt-ltb, not, not-false, over, past, refl, sound_by, sym, this, true, ◌∙◌}
 use Rattle.laws.specs.Chains.{none}
 use Rattle.arbiter.specs.ChangeLaws.{sound_by_lem}
 use Rattle.arbiter.specs.Sound.{sound}

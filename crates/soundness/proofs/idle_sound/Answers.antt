@@ -1,5 +1,6 @@
 -- Numbers have no bit among them exactly if each is zero.
-use Rattle.soundness.specs.Prelude.{[], ◌∷◌, ◌≡◌, all, and_assoc, and-true, bit_or, eqb, holds, union, union_none, ℕ}
+use Rattle.std.specs.Prelude.{◌∷◌, ◌≡◌}
+use Rattle.soundness.specs.Prelude.{[], all, and_assoc, and-true, bit_or, eqb, holds, union, union_none, ℕ}
 use Rattle.soundness.proofs.idle_sound.Goals as goal
 
 -- none of four numbers has a bit set

@@ -1,5 +1,6 @@
 -- The tests are the conditions, joined in their order; a limit of 32 bits is at most 2^32-1.
-use Rattle.soundness.specs.Prelude.{◌-◌, ◌^◌, ◌≤◌, all, and_assoc, and-true, arith, le-leb}
+use Rattle.std.specs.Prelude.{◌-◌, ◌^◌, ◌≤◌}
+use Rattle.soundness.specs.Prelude.{all, and_assoc, and-true, arith, le-leb}
 use Rattle.soundness.proofs.in_range.Goals as goal
 
 pub returns : goal.returns

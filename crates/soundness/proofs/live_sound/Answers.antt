@@ -1,5 +1,6 @@
 -- The fast test is the list of conditions.
-use Rattle.soundness.specs.Prelude.{◌&&◌, ◌∙◌, ap, eqb, leb, ltb, sym, ℕ}
+use Rattle.std.specs.Prelude.{◌&&◌}
+use Rattle.soundness.specs.Prelude.{◌∙◌, ap, eqb, leb, ltb, sym, ℕ}
 use Rattle.soundness.specs.BesideLaws.{holder_beside, tokenless_beside}
 use Rattle.soundness.proofs.live_sound.Goals as goal
 

@@ -1,5 +1,6 @@
 -- The tests are the conditions, joined in their order.
-use Rattle.soundness.specs.Prelude.{Bool, [], ◌&&◌, ◌∙◌, ◌∷◌, ◌≡◌, all, and_assoc, and-true, ap, ap₂, highest, holds, leb, not, not_ltb}
+use Rattle.std.specs.Prelude.{◌&&◌, ◌∷◌, ◌≡◌}
+use Rattle.soundness.specs.Prelude.{Bool, [], ◌∙◌, all, and_assoc, and-true, ap, ap₂, highest, holds, leb, not, not_ltb}
 use Rattle.soundness.specs.Conditions.{ranges}
 use Rattle.soundness.proofs.numbers_sound.Goals as goal
 

@@ -1,5 +1,5 @@
 -- No failure is forgotten.
-use Rattle.state.specs.Prelude.{◌-◌, ◌≤◌}
+use Rattle.std.specs.Prelude.{◌-◌, ◌≤◌}
 use Rattle.state.proofs.job_lines.Given as goal
 
 abbrev pub invariant-loop-p : goal.invariant-loop-p

@@ -1,5 +1,6 @@
 -- Whoever does not come changes nothing; whoever comes stands last.
-use Rattle.upkeep.specs.Prelude.{◌∙◌, ◌≡◌, add-one, arith, false, jobs, length-set, take-suc-set, true, ◌<◌}
+use Rattle.std.specs.Prelude.{◌≡◌, ◌<◌}
+use Rattle.upkeep.specs.Prelude.{◌∙◌, add-one, arith, false, jobs, length-set, take-suc-set, true}
 use Rattle.upkeep.proofs.append.Goals as goal
 use Rattle.upkeep.proofs.append.Goals.{Else-not-comes}
 

@@ -1,6 +1,7 @@
 -- The loop keeps: the sets of the jobs before k are in the column.
+use Rattle.std.specs.Prelude.{◌≡◌}
 use Rattle.std.proofs.Common.{rules}
-use Rattle.upkeep.specs.Prelude.{◌∙◌, ◌≡◌, arith, filled_more, jobs, length, length-set, live_within, not-suc-le-zero, refl, row_of}
+use Rattle.upkeep.specs.Prelude.{◌∙◌, arith, filled_more, jobs, length, length-set, live_within, not-suc-le-zero, refl, row_of}
 use Rattle.upkeep.proofs.declared_by.Goals as goal
 
 pub loop-k-preserved : goal.loop-k-preserved

@@ -1,5 +1,6 @@
 -- The loop keeps: the sets of the jobs before k are in the column.
-use Rattle.upkeep.specs.Prelude.{Filled, ◌-◌, ◌≡◌, ◌≤◌, jobs, length, row_of}
+use Rattle.std.specs.Prelude.{◌-◌, ◌≡◌, ◌≤◌}
+use Rattle.upkeep.specs.Prelude.{Filled, jobs, length, row_of}
 use Rattle.upkeep.proofs.declared_by.Given as goal
 
 abbrev pub invariant-loop-k : goal.invariant-loop-k

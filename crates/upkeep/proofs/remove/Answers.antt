@@ -1,5 +1,6 @@
 -- The loop keeps: without its entry at p the line is the old line without the one at the place.
-use Rattle.upkeep.specs.Prelude.{◌+◌, ◌-◌, ◌∙◌, ◌≡◌, add-one, ap, arith, false, get_or, length-set, refl, set, subst, suc, sym, take, true, ℕ}
+use Rattle.std.specs.Prelude.{◌+◌, ◌-◌, ◌≡◌}
+use Rattle.upkeep.specs.Prelude.{◌∙◌, add-one, ap, arith, false, get_or, length-set, refl, set, subst, suc, sym, take, true, ℕ}
 use Rattle.upkeep.specs.Removing.{removed_front, removed_next, removed_take}
 use Rattle.upkeep.specs.Upkeep.{removed}
 use Rattle.upkeep.proofs.remove.Goals as goal

@@ -1,5 +1,6 @@
 -- The loop keeps: without its entry at p the line is the old line without the one at the place.
-use Rattle.upkeep.specs.Prelude.{◌-◌, ◌<◌, ◌≡◌, ◌≤◌, jobs, length}
+use Rattle.std.specs.Prelude.{◌-◌, ◌<◌, ◌≡◌, ◌≤◌}
+use Rattle.upkeep.specs.Prelude.{jobs, length}
 use Rattle.upkeep.specs.Upkeep.{removed}
 use Rattle.upkeep.proofs.remove.Given as goal
 

@@ -1,5 +1,6 @@
 -- The loop keeps: what is found from place p on, with the claims before it, is what is found from the front on.
-use Rattle.upkeep.specs.Prelude.{Bool, Standing, ◌+◌, ◌<◌, ◌∙◌, ◌≡◌, ap, arith, cond, false, front, get_or, get_or-take, jobs, length, length-take-le, live, refl, sym, take, true, union, ℕ}
+use Rattle.std.specs.Prelude.{◌+◌, ◌<◌, ◌≡◌}
+use Rattle.upkeep.specs.Prelude.{Bool, Standing, ◌∙◌, ap, arith, cond, false, front, get_or, get_or-take, jobs, length, length-take-le, live, refl, sym, take, true, union, ℕ}
 use Rattle.upkeep.specs.Upkeep.{standing_in}
 use Rattle.upkeep.proofs.Loops.{from_here, standing_here, standing_next, standing_none}
 use Rattle.upkeep.proofs.standing_of.Goals as goal

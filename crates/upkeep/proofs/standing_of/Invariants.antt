@@ -1,5 +1,6 @@
 -- The loop keeps: what is found from place p on, with the claims before it, is what is found from the front on.
-use Rattle.upkeep.specs.Prelude.{◌-◌, ◌≡◌, ◌≤◌, front, take}
+use Rattle.std.specs.Prelude.{◌-◌, ◌≡◌, ◌≤◌}
+use Rattle.upkeep.specs.Prelude.{front, take}
 use Rattle.upkeep.specs.Upkeep.{standing_in}
 use Rattle.upkeep.proofs.Loops.{from_here}
 use Rattle.upkeep.proofs.standing_of.Given as goal

@@ -1,5 +1,6 @@
 -- Its parts are the walk's, and the tests are what the callees say.
-use Rattle.walk.specs.Prelude.{◌&&◌, not}
+use Rattle.std.specs.Prelude.{◌&&◌}
+use Rattle.walk.specs.Prelude.{not}
 use Rattle.walk.proofs.finished.Goals as goal
 
 pub returns : goal.returns

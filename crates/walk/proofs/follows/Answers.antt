@@ -1,5 +1,6 @@
 -- The first test decides where it fails; else the second one does.
-use Rattle.walk.specs.Prelude.{Bool, ◌&&◌, ◌∙◌, ap, beside_by, holds, meets, sym}
+use Rattle.std.specs.Prelude.{◌&&◌}
+use Rattle.walk.specs.Prelude.{Bool, ◌∙◌, ap, beside_by, holds, meets, sym}
 use Rattle.walk.proofs.follows.Goals as goal
 
 pub returns-then-earlier : goal.returns-then-earlier

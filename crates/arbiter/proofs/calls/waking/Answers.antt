@@ -1,5 +1,6 @@
 -- A refusal leaves the table and the list; an accepted event does what it means.
-use Rattle.arbiter.specs.Prelude.{Acts, Bounds, Change, Onward, Settles, ◌∙◌, ◌≡◌, acceptance_tells, ap, arith, fine, job_of, outcome, refl, sound_by, subst, sym, true, ℕ}
+use Rattle.std.specs.Prelude.{◌≡◌}
+use Rattle.arbiter.specs.Prelude.{Acts, Bounds, Change, Onward, Settles, ◌∙◌, acceptance_tells, ap, arith, fine, job_of, outcome, refl, sound_by, subst, sym, true, ℕ}
 use Rattle.event.specs.declared.events.Parts.{Parts}
 use Rattle.rows.specs.Line.{row_of}
 use Rattle.arbiter.proofs.Answering.{accepted_answers_into, refused_answers_into}

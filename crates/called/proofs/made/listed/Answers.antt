@@ -1,5 +1,6 @@
 -- Whether it may wake others is a part of its shape.
-use Rattle.called.specs.Prelude.{Shape, ◌∙◌, ◌≡◌, ap, described, false, sym, true}
+use Rattle.std.specs.Prelude.{◌≡◌}
+use Rattle.called.specs.Prelude.{Shape, ◌∙◌, ap, described, false, sym, true}
 use Rattle.called.proofs.made.listed.Goals as goal
 
 pub returns-then-shape : goal.returns-then-shape

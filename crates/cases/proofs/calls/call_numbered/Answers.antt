@@ -1,6 +1,7 @@
 -- Each arm's number is that of its call; another number is an event's, or none's.
+use Rattle.std.specs.Prelude.{◌≡◌, ◌≢◌}
 use Rattle.std.proofs.Common.{rules}
-use Rattle.cases.specs.Prelude.{GiveUp, ◌∙◌, ◌≡◌, ◌≢◌, cond, ne_eqb, sym, ℕ}
+use Rattle.cases.specs.Prelude.{GiveUp, ◌∙◌, cond, ne_eqb, sym, ℕ}
 use Rattle.cases.specs.Calls.{call_numbered, event_call_numbered}
 use Rattle.cases.specs.declared.calls.Asked.TheVariants.{For}
 use Rattle.cases.specs.declared.calls.Call.TheVariants as call

@@ -1,6 +1,7 @@
 -- The loop keeps the list's length, and that the entries before the present one are filled.
+use Rattle.std.specs.Prelude.{◌%◌, ◌*◌, ◌+◌, ◌/◌, ◌<◌, ◌≡◌}
 use Rattle.std.proofs.Common.{rules}
-use Rattle.cases.specs.Prelude.{List, ◌%◌, ◌*◌, ◌+◌, ◌/◌, ◌<◌, ◌∙◌, ◌≡◌, add-one, ap, arith, length, mul-add-mod_self_right, refl, set, sym, take, take-length, take-suc-set, ℕ}
+use Rattle.cases.specs.Prelude.{List, ◌∙◌, add-one, ap, arith, length, mul-add-mod_self_right, refl, set, sym, take, take-length, take-suc-set, ℕ}
 use Rattle.cases.specs.Calls.{lent}
 use Rattle.cases.proofs.handed.lend.Goals as goal
 

@@ -1,5 +1,6 @@
 -- The loop keeps the list's length, and that the entries before the present one are filled.
-use Rattle.cases.specs.Prelude.{◌-◌, ◌≡◌, ◌≤◌, length, take}
+use Rattle.std.specs.Prelude.{◌-◌, ◌≡◌, ◌≤◌}
+use Rattle.cases.specs.Prelude.{length, take}
 use Rattle.cases.specs.Calls.{lent}
 use Rattle.cases.proofs.handed.lend.Given as goal
 

@@ -1,6 +1,7 @@
 -- The loop keeps that the rows before the present job are those of the bytes.
+use Rattle.std.specs.Prelude.{◌≡◌}
 use Rattle.std.proofs.Common.{rules}
-use Rattle.cases.specs.Prelude.{arith, filled_more, idle, refl, ◌≡◌}
+use Rattle.cases.specs.Prelude.{arith, filled_more, idle, refl}
 use Rattle.cases.specs.Layout.{row_at}
 use Rattle.cases.proofs.layout.rows_of.Goals as goal
 

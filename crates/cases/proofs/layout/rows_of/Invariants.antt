@@ -1,5 +1,6 @@
 -- The loop keeps that the rows before the present job are those of the bytes.
-use Rattle.cases.specs.Prelude.{◌-◌, Filled, idle, jobs, length, ◌≡◌, ◌≤◌}
+use Rattle.std.specs.Prelude.{◌-◌, ◌≡◌, ◌≤◌}
+use Rattle.cases.specs.Prelude.{Filled, idle, jobs, length}
 use Rattle.cases.specs.Layout.{row_at}
 use Rattle.cases.proofs.layout.rows_of.Given as goal
 

@@ -1,6 +1,7 @@
 -- The verdict on each kind of event is that of its own function.
+use Rattle.std.specs.Prelude.{◌≡◌}
 use Rattle.std.proofs.Common.{subst}
-use Rattle.decision.specs.Prelude.{outcome, sym, tick_of, time_from, ◌≡◌}
+use Rattle.decision.specs.Prelude.{outcome, sym, tick_of, time_from}
 use Rattle.event.specs.Clock.{moment_of}
 use Rattle.event.specs.declared.clock.Moment.{Moment}
 use Rattle.event.specs.declared.events.Event.{Event}

@@ -1,5 +1,6 @@
 -- The three tests are the three cases, in their order; what passes them is the sum.
-use Rattle.event.specs.Prelude.{◌+◌, arith, le-leb, le-ltb, lt-leb, lt-ltb, outcome_is, past, this}
+use Rattle.std.specs.Prelude.{◌+◌}
+use Rattle.event.specs.Prelude.{arith, le-leb, le-ltb, lt-leb, lt-ltb, outcome_is, past, this}
 use Rattle.laws.specs.Chains.{none}
 use Rattle.event.specs.Clock.{difference, forward, hour}
 use Rattle.event.specs.Limits.{highest}

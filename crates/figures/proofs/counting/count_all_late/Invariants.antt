@@ -1,5 +1,5 @@
 -- The loop counts to its end.
-use Rattle.figures.specs.Prelude.{◌-◌}
+use Rattle.std.specs.Prelude.{◌-◌}
 use Rattle.figures.proofs.counting.count_all_late.Given as goal
 
 abbrev pub decreases-loop-i : goal.decreases-loop-i

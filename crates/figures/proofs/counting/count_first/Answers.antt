@@ -1,5 +1,6 @@
 -- The test is that of the definition.
-use Rattle.figures.specs.Prelude.{◌≡◌, get_or}
+use Rattle.std.specs.Prelude.{◌≡◌}
+use Rattle.figures.specs.Prelude.{get_or}
 use Rattle.figures.specs.Sheet.{place_of}
 use Rattle.figures.specs.SheetLaws.{first_known, first_new}
 use Rattle.figures.proofs.counting.count_first.Goals as goal

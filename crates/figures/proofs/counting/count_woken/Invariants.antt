@@ -1,5 +1,5 @@
 -- The loop counts to its end.
-use Rattle.figures.specs.Prelude.{◌-◌}
+use Rattle.std.specs.Prelude.{◌-◌}
 use Rattle.figures.proofs.counting.count_woken.Given as goal
 
 abbrev pub decreases-loop-i : goal.decreases-loop-i

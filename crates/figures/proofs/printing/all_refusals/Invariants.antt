@@ -1,5 +1,5 @@
 -- No failure is forgotten.
-use Rattle.figures.specs.Prelude.{◌-◌, ◌≤◌}
+use Rattle.std.specs.Prelude.{◌-◌, ◌≤◌}
 use Rattle.figures.proofs.printing.all_refusals.Given as goal
 
 abbrev pub invariant-loop-number : goal.invariant-loop-number

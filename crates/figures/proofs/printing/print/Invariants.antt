@@ -1,5 +1,5 @@
 -- No failure is forgotten.
-use Rattle.figures.specs.Prelude.{◌-◌, ◌≤◌}
+use Rattle.std.specs.Prelude.{◌-◌, ◌≤◌}
 use Rattle.figures.proofs.printing.print.Given as goal
 
 abbrev pub invariant-loop-i : goal.invariant-loop-i

@@ -1,5 +1,6 @@
 -- The tests are those of the definition: whoever asks for what is claimed does not wake.
-use Rattle.request.specs.Prelude.{Bool, ◌-◌, ◌&&◌, ◌||◌, ◌≡◌, ◌∙◌, and-false, and-true, eqb, false, ltb, not, sym, true}
+use Rattle.std.specs.Prelude.{◌-◌, ◌&&◌, ◌||◌, ◌≡◌}
+use Rattle.request.specs.Prelude.{Bool, ◌∙◌, and-false, and-true, eqb, false, ltb, not, sym, true}
 use Rattle.request.proofs.change.wakes.Goals as goal
 
 claimed : (a b : Bool) → b ≡ true → false ≡ (a && not b)

@@ -1,6 +1,7 @@
 -- The loop's invariant: `n` rows before place `i` are live.
+use Rattle.std.specs.Prelude.{◌-◌}
 use Rattle.std.proofs.Common.{rules}
-use Rattle.rows.specs.Prelude.{◌-◌, arith, passed_all, passed_le, passed_more, passed_none}
+use Rattle.rows.specs.Prelude.{arith, passed_all, passed_le, passed_more, passed_none}
 use Rattle.rows.specs.Order.{idle, live}
 use Rattle.rows.proofs.scan.live_count.Goals as goal
 

@@ -1,5 +1,6 @@
 -- The loop's invariant: `n` rows before place `i` are live.
-use Rattle.rows.specs.Prelude.{Passed, ◌-◌, ◌≤◌, jobs}
+use Rattle.std.specs.Prelude.{◌-◌, ◌≤◌}
+use Rattle.rows.specs.Prelude.{Passed, jobs}
 use Rattle.rows.specs.Order.{live}
 use Rattle.rows.proofs.scan.live_count.Given as goal
 

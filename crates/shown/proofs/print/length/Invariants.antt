@@ -1,5 +1,5 @@
 -- The loop stays within the word.
-use Rattle.shown.specs.Prelude.{◌-◌, ◌≤◌}
+use Rattle.std.specs.Prelude.{◌-◌, ◌≤◌}
 use Rattle.shown.proofs.print.length.Given as goal
 
 abbrev pub invariant-loop-i : goal.invariant-loop-i

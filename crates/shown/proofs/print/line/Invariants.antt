@@ -1,5 +1,5 @@
 -- No failure is forgotten.
-use Rattle.shown.specs.Prelude.{◌-◌, ◌≤◌}
+use Rattle.std.specs.Prelude.{◌-◌, ◌≤◌}
 use Rattle.shown.proofs.print.line.Given as goal
 
 abbrev pub invariant-loop-i : goal.invariant-loop-i

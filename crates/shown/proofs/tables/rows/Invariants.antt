@@ -1,5 +1,5 @@
 -- No failure is forgotten.
-use Rattle.shown.specs.Prelude.{◌-◌, ◌≤◌}
+use Rattle.std.specs.Prelude.{◌-◌, ◌≤◌}
 use Rattle.shown.proofs.tables.rows.Given as goal
 
 abbrev pub invariant-loop-job : goal.invariant-loop-job

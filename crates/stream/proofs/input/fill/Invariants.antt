@@ -1,5 +1,6 @@
 -- What came is no longer than the piece.
-use Rattle.stream.specs.Prelude.{◌-◌, ◌≤◌, length}
+use Rattle.std.specs.Prelude.{◌-◌, ◌≤◌}
+use Rattle.stream.specs.Prelude.{length}
 use Rattle.stream.proofs.input.fill.Given as goal
 
 abbrev pub invariant-loop-count : goal.invariant-loop-count

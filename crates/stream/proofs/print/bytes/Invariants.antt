@@ -1,5 +1,6 @@
 -- No failure is forgotten.
-use Rattle.stream.specs.Prelude.{◌-◌, ◌≤◌, length}
+use Rattle.std.specs.Prelude.{◌-◌, ◌≤◌}
+use Rattle.stream.specs.Prelude.{length}
 use Rattle.stream.proofs.print.bytes.Given as goal
 
 abbrev pub invariant-loop-i : goal.invariant-loop-i

@@ -1,5 +1,6 @@
 -- A number has at most 20 digits, and what was written at the front of the array is its text.
-use Rattle.stream.specs.Prelude.{List, Wrote, arith, drop, laid_front, length, length_text_u64, over, refl, take, take_at, zero-add, ℕ, ◌≡◌}
+use Rattle.std.specs.Prelude.{◌≡◌}
+use Rattle.stream.specs.Prelude.{List, Wrote, arith, drop, laid_front, length, length_text_u64, over, refl, take, take_at, zero-add, ℕ}
 use Rattle.stream.proofs.print.number.Goals as goal
 
 -- what was written at the front is what stands there

@@ -1,5 +1,6 @@
 -- Before the first turn, on each turn, and after the last.
-use Rattle.sweep.specs.Prelude.{row_of, sym, ◌∙◌, ◌≡◌, ap, true, ◌&&◌, ltb, get_or}
+use Rattle.std.specs.Prelude.{◌≡◌, ◌&&◌}
+use Rattle.sweep.specs.Prelude.{row_of, sym, ◌∙◌, ap, true, ltb, get_or}
 use Rattle.sweep.specs.declared.settling.Begun.{Begun}
 use Rattle.sweep.specs.Passing.{passed_by}
 use Rattle.sweep.proofs.Turns.{Asked, begins, ends, few_tokens, goes_on, job_inside, token}

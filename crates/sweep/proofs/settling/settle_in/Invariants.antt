@@ -1,6 +1,6 @@
 -- The loop keeps: of the line the first p jobs are passed, and the rows, the list and what stands before the next are as the sweep
 -- has made them.
-use Rattle.sweep.specs.Prelude.{◌-◌}
+use Rattle.std.specs.Prelude.{◌-◌}
 use Rattle.sweep.proofs.Turns.{At}
 use Rattle.sweep.proofs.settling.settle_in.Given as goal
 

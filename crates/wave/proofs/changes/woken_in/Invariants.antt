@@ -1,5 +1,5 @@
 -- No failure is forgotten.
-use Rattle.wave.specs.Prelude.{◌-◌, ◌≤◌}
+use Rattle.std.specs.Prelude.{◌-◌, ◌≤◌}
 use Rattle.wave.proofs.changes.woken_in.Given as goal
 
 abbrev pub invariant-loop-i : goal.invariant-loop-i

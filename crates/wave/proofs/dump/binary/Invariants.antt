@@ -1,5 +1,5 @@
 -- The loop keeps the place within the digits.
-use Rattle.wave.specs.Prelude.{◌≤◌}
+use Rattle.std.specs.Prelude.{◌≤◌}
 use Rattle.wave.proofs.dump.binary.Given as goal
 
 abbrev pub invariant-loop-at : goal.invariant-loop-at

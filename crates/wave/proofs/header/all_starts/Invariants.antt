@@ -1,5 +1,5 @@
 -- No failure is forgotten.
-use Rattle.wave.specs.Prelude.{◌-◌, ◌≤◌}
+use Rattle.std.specs.Prelude.{◌-◌, ◌≤◌}
 use Rattle.wave.proofs.header.all_starts.Given as goal
 
 abbrev pub invariant-loop-job : goal.invariant-loop-job

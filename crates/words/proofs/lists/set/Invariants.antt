@@ -1,5 +1,5 @@
 -- No failure is forgotten.
-use Rattle.words.specs.Prelude.{◌-◌, ◌≤◌}
+use Rattle.std.specs.Prelude.{◌-◌, ◌≤◌}
 use Rattle.words.proofs.lists.set.Given as goal
 
 abbrev pub invariant-loop-member : goal.invariant-loop-member

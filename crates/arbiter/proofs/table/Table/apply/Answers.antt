@@ -1,5 +1,6 @@
 -- Each arm is the method of that event; those that wake nobody leave the lent list as it was.
-use Rattle.arbiter.specs.Prelude.{Case, Event, List, Next, Table, [], ap, jobs, leaves, leaves_same, length, outcome, over, refl, sym, ℕ, ◌∙◌, ◌≡◌}
+use Rattle.std.specs.Prelude.{◌≡◌}
+use Rattle.arbiter.specs.Prelude.{Case, Event, List, Next, Table, [], ap, jobs, leaves, leaves_same, length, outcome, over, refl, sym, ℕ, ◌∙◌}
 use Rattle.arbiter.specs.Meaning.{accepted, answer, listed, next, said, wakes}
 use Rattle.arbiter.specs.Promises.{Answered, AnsweredInto}
 use Rattle.arbiter.specs.Refusals.{cases}

@@ -1,5 +1,6 @@
 -- What an event that may wake others comes to in place is what the event means.
-use Rattle.in_place.specs.Prelude.{Acts, Bool, Bounds, Change, Event, EventAnswer, List, Next, Onward, Refusal, Settles, Survey, Surveyed, Table, ◌<◌, ◌∙◌, ◌≡◌, ◌≤◌, about, acceptance_tells, accepted_answers_into, answer_in_numbers, ap, arith, bounds_of, change_on, false, fine, job_of, jobs, length, line_seen, long_cases, may_act, moved, number_of, outcome, refl, refusal_cases, refused, refused_answers_into, row_in, row_of, saw_sound, seen_in, settling_does, short_cases, sound, sound_by_lem, subst, sym, true, true≢false, writes_onward, ℕ}
+use Rattle.std.specs.Prelude.{◌<◌, ◌≡◌, ◌≤◌}
+use Rattle.in_place.specs.Prelude.{Acts, Bool, Bounds, Change, Event, EventAnswer, List, Next, Onward, Refusal, Settles, Survey, Surveyed, Table, ◌∙◌, about, acceptance_tells, accepted_answers_into, answer_in_numbers, ap, arith, bounds_of, change_on, false, fine, job_of, jobs, length, line_seen, long_cases, may_act, moved, number_of, outcome, refl, refusal_cases, refused, refused_answers_into, row_in, row_of, saw_sound, seen_in, settling_does, short_cases, sound, sound_by_lem, subst, sym, true, true≢false, writes_onward, ℕ}
 use Rattle.arbiter.specs.Refusals.{cases}
 use Rattle.decision.specs.declared.answer.Answer.TheVariants as Answers
 use Rattle.event.specs.declared.events.Event.TheVariants.{Ask, Beat, Complete, GiveUp, Open, Release}
