@@ -1,10 +1,6 @@
 -- A request is opened with all live requests before it.
-<<<<<<< HEAD
-use Rattle.promises.specs.Prelude.{Open, Table, Tick, ◌≡◌, ahead, ahead_set, ap, arith, bit, count, jobs, live, next, opened_row, row_in, time_at, ℕ}
-=======
 use Rattle.std.specs.Prelude.{◌≡◌}
 use Rattle.promises.specs.Prelude.{Open, Table, Tick, ahead, ahead_set, ap, arith, bit, count, jobs, live, next, opened_row, row_in, time_at, ℕ}
->>>>>>> 61416d6d65233e21c256422a3f61dd04c89d199f
 use Rattle.promises.proofs.Demand.Token.{all_before, n}
 use Rattle.promises.specs.History.Words.{Along}
 use Rattle.kept.specs.Changes.{lower_ahead}
