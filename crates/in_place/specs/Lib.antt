@@ -4,4 +4,3 @@ pub mod Promises
 pub mod Putting
 pub mod PuttingLaws
 pub mod Waking
-pub mod WakingLaws

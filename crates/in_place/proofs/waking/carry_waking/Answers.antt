@@ -1,5 +1,5 @@
 -- What the event comes to, carried out, is what it means.
-use Rattle.in_place.specs.WakingLaws.{finished}
+use Rattle.in_place.proofs.WakingLaws.{finished}
 use Rattle.in_place.proofs.waking.carry_waking.Goals as goal
 
 pub returns : goal.returns

@@ -1,7 +1,7 @@
 -- A list that is too short is refused first; else what was found is what the event comes to.
 use Rattle.in_place.specs.Prelude.{Bounds, ap}
 use Rattle.event.specs.declared.events.Parts.{Parts}
-use Rattle.in_place.specs.WakingLaws.{accepted_sweeps, refused_lapses, short_lapses}
+use Rattle.in_place.proofs.WakingLaws.{accepted_sweeps, refused_lapses, short_lapses}
 use Rattle.in_place.proofs.waking.sweep_by.Goals as goal
 
 pub returns-then-lent-lt-JOBS : goal.returns-then-lent-lt-JOBS

@@ -1,0 +1,2 @@
+-- Laws of the calls that may wake others.
+pub mod WakingLaws
