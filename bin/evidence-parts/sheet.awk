@@ -28,19 +28,20 @@ $1 == "found" && $2 in found { twice("broken rule " $2) }
 $1 == "ran" && $2 in ran { twice("the gate's " $2) }
 $1 == "alike" && $1 in gate { twice("the comparison with the model") }
 $1 == "verdict" && $1 in gate { twice("'N passed, 0 failed'") }
-$1 == "checked" { result[$2] = $3; functions[$2] = $4; listed[$2] = $5 + 0; took[$2] = $6; rests[$2] = $7; counted[$2] = $8 + 0 }
+$1 == "checked" { result[$2] = $3; functions[$2] = $4; listed[$2] = $5 + 0; rests[$2] = $6; counted[$2] = $7 + 0 }
 $1 == "function" { names[$2] = names[$2] (names[$2] == "" ? "" : ", ") $3 }
 $1 == "unproved" { why($3); failed = 1 }
 $1 == "axioms" { axioms[++axiom_count] = $3; axiom_in[axiom_count] = $2; has_axioms[$2]++ }
 $1 == "linked" { linked[$2] = $3 }
 $1 == "program" { wrote[$2] = $3 }
-$1 == "tried" { outcome[$2] = $3; edit_took[$2] = $4; edit_seconds += $4; edit_said[$2] = $5; tried[++tried_count] = $2 }
+$1 == "tried" { outcome[$2] = $3; edit_said[$2] = $4; tried[++tried_count] = $2 }
+$1 == "earlier" { earlier[$2] = $3 }
 $1 == "wrong" { why($2); failed = 1 }
 $1 == "compared" { compared[++compared_count] = $2 OFS $3 OFS $4 OFS $5 OFS $6 }
 $1 == "found" { found[$2] = $3 }
 $1 == "ran" { ran[$2] = $3 }
 $1 == "firmware" { firmware[++firmware_lines] = $2 }
-$1 ~ /^(seed|alike|desk|breaks|trial|verdict|last)$/ { gate[$1] = $2 }
+$1 ~ /^(seed|alike|table|desk|breaks|trial|verdict|last)$/ { gate[$1] = $2 }
 $1 == "verdict" && $2 !~ /, 0 failed$/ { why("the output says: " $2); failed = 1 }
 $1 == "model" { gate["model"] = (gate["model"] == "" ? "" : gate["model"] " | ") $2 }
 
@@ -66,6 +67,8 @@ function look_at_edits(    i, e, unsaid) {
         else good++
     }
     if (unsaid) why("must-fail edits: the output says nothing of " unsaid " of " edit_count " (MISSING in their table)")
+    for (i = 1; i <= crate_count; i++)
+        if (crates[i] in earlier) why("crate " crates[i] ": " earlier[crates[i]] " of its must-fail edits NOT TRIED ANEW")
     for (i = 1; i <= tried_count; i++)
         if (!(tried[i] in tries)) why("must-fail edit " tried[i] ": in the output, and not in the tree (" edit_said[tried[i]] ")")
 }
@@ -84,6 +87,7 @@ function look_at_comparisons(    i, unsaid) {
     if (gate["model"] == "") why("the model's own tests: the output says nothing of them")
     else if (gate["model"] !~ /[1-9][0-9]* passed/) why("the model's own tests: none passed")
     if (!("alike" in gate)) why("the comparison with the model: the output does not say that it came to its end")
+    if (!("table" in gate)) why("the comparison of the program table with the model (.ci/compare-table): the output does not say that it came to its end")
     if (!("desk" in gate)) why("the comparison of the desk program with the model (.ci/compare-desk): the output does not say that it came to its end")
     if (!("breaks" in gate)) why("the comparison's own trial (.ci/compare-breaks): the output does not say that it came to its end")
     for (i = 1; i <= break_count; i++) if (!(breaks[i] in found)) unsaid++
@@ -93,7 +97,7 @@ function look_at_comparisons(    i, unsaid) {
 }
 
 function look_at_demand() {
-    if (!theorem_lines) why("demand 3: no file of crates/promises/specs has the theorem demand3")
+    if (!theorem_lines) why("demand 3: no file of crates/promises/proofs has the theorem demand3")
 }
 
 function look_at_end(    a) {
@@ -124,7 +128,8 @@ function look_at_identity(    i, sum) {
 }
 
 # ---- on what a crate rests
-# The kit's libraries that a crate reaches: what crates.txt lists and is no crate of the repository.
+# The kit's libraries that a crate reaches: std, with libc and os below it, and what crates.txt lists and is no crate of the
+# repository.
 function kit_of(c,    a, n, i, out) {
     n = split(deps[c], a, " ")
     for (i = 1; i <= n; i++) out = out " " (known[a[i]] ? kit_of(a[i]) : a[i])
@@ -141,15 +146,15 @@ function origin(i,    from) {
     from = axioms[i]
     sub(/:.*/, "", from)
     if (known[from] || from == "its own") return "NOT OF THE KIT: declared in this repository"
-    if (index(" " kit_of(axiom_in[i]) " ", " " from " ")) return "kit library " from
+    if (index(" std libc os " kit_of(axiom_in[i]) " ", " " from " ")) return "kit library " from
     return "NOT KNOWN: crates.txt names no library " from " for it"
 }
 
-# A library's check names no axioms of the kit's libraries below it: the programs above it do.
+# A library's check names no axioms of the kit's libraries below it: the programs above it do, and the archive.
 function axioms_of(c) {
     if (result[c] != "proved") return "-"
     if (has_axioms[c]) return counted[c] ? counted[c] : "NOT COUNTED"
-    return kit_of(c) == "" || tree["program " c] ? "0" : "see programs"
+    return tree["program " c] ? "0" : "see programs"
 }
 
 function refused_of(c,    i, n) {
@@ -186,19 +191,18 @@ function then_and_now(what) {
     return ran[what] == tree[what] ? tree[what] : ran[what] " when the gate ran, " tree[what] " now"
 }
 
-function show_crates(    i, c, f, s) {
-    print "head", "What was proved, and what it costs"
-    print "para", "Lines are those that are neither empty nor comment: code in src, definitions and laws with their proofs in specs, proofs of functions in proofs. Seconds are those of the crate's check."
-    print "cols", "crate", "result", ">functions", ">src", ">specs", ">proofs", ">axioms", ">edits refused", ">seconds", "kit libraries"
+function show_crates(    i, c, f) {
+    print "head", "What was proved, and how large it is"
+    print "para", "Lines are those that are neither empty nor comment: code in src, definitions and laws with their proofs in specs, proofs of functions, and laws that rest on their definitions, in proofs."
+    print "cols", "crate", "result", ">functions", ">src", ">specs", ">proofs", ">axioms", ">edits refused", "kit libraries beside std"
     for (i = 1; i <= crate_count; i++) {
         c = crates[i]
         print "row", c, at(result, c, "MISSING"), at(functions, c, "-"), lines[c, "src"] + 0, lines[c, "specs"] + 0, \
-            lines[c, "proofs"] + 0, axioms_of(c), refused_of(c), at(took, c, "-"), orelse(kit_of(c), "none")
+            lines[c, "proofs"] + 0, axioms_of(c), refused_of(c), orelse(kit_of(c), "none")
         f += functions[c]
-        s += took[c]
     }
     print "row", "all", "", f + 0, lines["all", "src"] + 0, lines["all", "specs"] + 0, lines["all", "proofs"] + 0, "", \
-        refused_count() " of " edit_count + 0, s + 0, ""
+        refused_count() " of " edit_count + 0, ""
 }
 
 function refused_count(    i, n) {
@@ -233,20 +237,20 @@ function share(words, c) {
 # What is linked besides the program's own object.
 function c_code(c,    files) {
     files = linked[c]
-    sub(/^[^,]*\/target\/obj\/[^,]*,?/, "", files)
+    sub(/^out\/[^,]*,?/, "", files)
     return files
 }
 
 function show_edits(    i, e) {
     print "head", "Wrong versions that must be refused"
-    print "para", refused_count() " of " edit_count + 0 " were refused, in " edit_seconds + 0 " seconds of checks."
-    print "cols", "edit", "result", ">seconds", "what it tried"
+    print "para", refused_count() " of " edit_count + 0 " were refused."
+    print "cols", "edit", "result", "what it tried"
     for (i = 1; i <= edit_count; i++) {
         e = edits[i]
-        print "row", e, at(outcome, e, "MISSING"), at(edit_took, e, "-"), tries[e]
+        print "row", e, at(outcome, e, "MISSING"), tries[e]
     }
     for (i = 1; i <= tried_count; i++)
-        if (!(tried[i] in tries)) print "row", tried[i], outcome[tried[i]], at(edit_took, tried[i], "-"), "NOT IN THE TREE"
+        if (!(tried[i] in tries)) print "row", tried[i], outcome[tried[i]], "NOT IN THE TREE"
 }
 
 function show_comparisons(    i) {
@@ -256,6 +260,7 @@ function show_comparisons(    i) {
         if (tree["program " crates[i]]) print "row", "program " crates[i], at(wrote, crates[i], "MISSING")
     print "row", "model's own tests", at(gate, "model", "MISSING")
     print "row", "programs and model", at(gate, "alike", "MISSING")
+    print "row", "table and model", at(gate, "table", "MISSING")
     print "row", "desk and model", at(gate, "desk", "MISSING")
     print "row", "seed", at(gate, "seed", "MISSING")
     print "row", "broken rules", at(gate, "breaks", "MISSING")
