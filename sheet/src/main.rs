@@ -32,7 +32,7 @@ fn main() -> ExitCode {
     match make_sheet() {
         Ok(passed) => ExitCode::from(u8::from(!passed)),
         Err(why) => {
-            eprintln!("evidence: {why}");
+            eprintln!("sheet: {why}");
             ExitCode::from(2)
         }
     }
@@ -51,7 +51,7 @@ fn make_sheet() -> Result<bool, String> {
     let sheet = sheet::sheet(&tree, &output::read(&String::from_utf8_lossy(&printed)));
     write(folder, "sheet.txt", &text::text(&sheet))?;
     write(folder, "sheet.html", &page::page(&sheet))?;
-    println!("evidence: {folder}/sheet.txt and {folder}/sheet.html: {}", sheet.verdict);
+    println!("sheet: {folder}/sheet.txt and {folder}/sheet.html: {}", sheet.verdict);
     Ok(sheet.passed)
 }
 

@@ -26,15 +26,17 @@ const fn part(what: &'static str, by: &'static str, begins: &'static str) -> Par
     Part { what, by, begins }
 }
 
-pub const PARTS: [Part; 11] = [
+pub const PARTS: [Part; 13] = [
     part("programs and model", ".ci/compare", "compare: alike: "),
     part("program table and model", ".ci/compare-table", "compare-table: alike: "),
     part("program desktool and model", ".ci/compare-desk", "compare-desk: alike: "),
     part("broken rules of model", ".ci/compare-breaks", "compare-breaks: "),
     part("test of this sheet", "tests/sheet", "sheet test: ok: "),
+    part("test of bin/evidence", "tests/evidence", "evidence test: "),
     part("test of the commands", "tests/commands", "commands test: ok: "),
     part("test of the cost", "tests/cost", "cost test: "),
     part("names of wrong versions", "tests/edits", "edits test: "),
+    part("table of refusals", "tests/refusals", "refusals test: "),
     part("page of the rules", "tests/rules", "rules test: ok: "),
     part("page for firmware", "tests/page", "page test: "),
     part("bundle for firmware", "tests/bundle", "bundle test: "),

@@ -190,9 +190,11 @@ fn a_part_that_says_that_it_failed_before_a_verdict() {
     let names = [
         "gate",
         "sheet test",
+        "evidence test",
         "commands test",
         "cost test",
         "edits test",
+        "refusals test",
         "rules test",
         "page test",
         "bundle test",

@@ -74,8 +74,9 @@ pub fn with_kept(output: &str, name: &str) -> String {
 
 pub fn output() -> String {
     let mut lines = IDENTITY.to_string();
-    lines += "sheet test: ok: 99 cases\ncommands test: ok: 7 commands\ncost test: as it must be\n";
-    lines += "edits test: 2 edits, each named\nrules test: ok: 6 rules\n";
+    lines +=
+        "sheet test: ok: 99 cases\nevidence test: 47 cases\ncommands test: ok: 7 commands\ncost test: as it must be\n";
+    lines += "edits test: 2 edits, each named\nrefusals test: as the definitions say\nrules test: ok: 6 rules\n";
     for Crate { name, is_program, .. } in tree().crates {
         lines += &crate_lines(&name, is_program);
     }

@@ -24,7 +24,11 @@ fn the_first_page_is_enough_to_sign_by() {
     let proved = ["demand3", "crates/promises/proofs/Demand/Holds.antt", "AnsweredInto", "one_record"];
     let trusted = ["LLVM", "norakkeun.h", "memcpy", "linker", "libos_c.a", "rattle_errno", "write", "do not name"];
     let compared = ["31 passed", "seed 4711", "seed 4712", "seed 4713", "2 broken rules", "both examples ran"];
-    let ran = ["9 of 9 crates, with 9 functions", "2 of 2 refused", "sheet, commands, cost, edits, rules"];
+    let ran = [
+        "9 of 9 crates, with 9 functions",
+        "2 of 2 refused",
+        "sheet, evidence, commands, cost, edits, refusals, rules",
+    ];
     let says =
         [&signed[..], &proved, &trusted, &compared, &ran, &["Milliseconds", "holder", "an hour", "Signature"]].concat();
     let first_of_text = text(&sheet).split("\nAppendix\n").next().unwrap().to_string();
