@@ -49,7 +49,7 @@ NF { last = $0 }
 /^== / { check_begins() }
 # What rattle itself writes round main is no function of the sources, and it counts none.
 /^fn .*: proved$/ && !/\+run: proved$/ { proved++; name = after("fn "); sub(/: proved$/, "", name); hold("function", name) }
-/^fn / && !/: proved(, may .*)?$/ { hold("unproved", $0) }
+/^fn / && !/: proved$/ { hold("unproved", $0) }
 /^axioms [^ ]+: / && !/: none reached of / { hold("axioms", after("axioms ")) }
 /^linked / { hold("linked", word("files")) }
 /^logic=proved / {

@@ -28,7 +28,7 @@ $1 == "found" && $2 in found { twice("broken rule " $2) }
 $1 == "ran" && $2 in ran { twice("the gate's " $2) }
 $1 == "alike" && $1 in gate { twice("the comparison with the model") }
 $1 == "verdict" && $1 in gate { twice("'N passed, 0 failed'") }
-$1 == "checked" { result[$2] = $3; functions[$2] = $4; listed[$2] = $5 + 0; rests[$2] = $6; counted[$2] = $7 + 0 }
+$1 == "checked" { result[$2] = $3; functions[$2] = $4; listed[$2] = $5 + 0; rests[$2] = $6; counted[$2] = $7 + 0; counts[$2] = $7 != "" }
 $1 == "function" { names[$2] = names[$2] (names[$2] == "" ? "" : ", ") $3 }
 $1 == "unproved" { why($3); failed = 1 }
 $1 == "axioms" { axioms[++axiom_count] = $3; axiom_in[axiom_count] = $2; has_axioms[$2]++ }
@@ -154,7 +154,7 @@ function origin(i,    from) {
 function axioms_of(c) {
     if (result[c] != "proved") return "-"
     if (has_axioms[c]) return counted[c] ? counted[c] : "NOT COUNTED"
-    return tree["program " c] ? "0" : "see programs"
+    return tree["program " c] || counts[c] ? "0" : "see programs"
 }
 
 function refused_of(c,    i, n) {
