@@ -51,10 +51,11 @@ NF { last = $0 }
 /^fn .*: proved$/ && !/\+run: proved$/ { proved++; name = after("fn "); sub(/: proved$/, "", name); hold("function", name) }
 /^fn / && !/: proved$/ { hold("unproved", $0) }
 /^axioms [^ ]+: / && !/: none reached of / { hold("axioms", after("axioms ")) }
+/^axioms [^ ]+: none reached of / { axioms += 0 }
 /^linked / { hold("linked", word("files")) }
 /^logic=proved / {
     functions = word("functions")
-    axioms = word("axioms")
+    if (word("axioms") != "") axioms = word("axioms")
     if (word("foreign") != "") hold("axioms", "its own: " word("foreign"))
     rests = $0
     sub(/^.* sum=/, "sum=", rests)
