@@ -17,7 +17,7 @@ const HOUR: u64 = 3_600_000;
 
 // The drive's millisecond counter. A type of its own, so that no turn can stand in its place.
 #[repr(C)]
-#[derive(Clone, Copy)]
+#[derive(Clone, Copy, Debug, PartialEq, Eq)]
 pub struct Tick(pub u32);
 
 // The true time that `tick` gives after true time `time`, or why it is refused.

@@ -4,7 +4,7 @@ ghost use Rattle.event.specs.Refusals.{number_of};
 ghost use Rattle.event.specs.RefusalLaws.{refusal_numbered};
 
 // In the order of their numbers, 1 to 23; a later number goes at the end.
-#[derive(Clone, Copy)]
+#[derive(Clone, Copy, Debug, PartialEq, Eq)]
 pub enum Refusal {
     BadStart,
     ShortList,
