@@ -1,5 +1,8 @@
 -- Each answer's word; only one that tells how many woke lists jobs.
-use Rattle.lines.specs.Prelude.{arith}
+use Rattle.std.specs.Prelude.{◌≡◌}
+use Rattle.std.proofs.Common.{rules}
+use Rattle.event.specs.Limits.{jobs}
+use Rattle.lines.specs.Prelude.{arith, length, take, take_min}
 use Rattle.lines.specs.Lines.{items, word_text}
 use Rattle.lines.specs.Promises.{word_from}
 use Rattle.lines.proofs.put_word.Goals as goal
@@ -26,4 +29,10 @@ returns-in-Done c = let w = c.put-in-Done.ensures in rw c.in-Done.is (record { w
 
 pub returns-in-Woke : goal.returns-in-Woke
 unfolding word_from word_text items
-returns-in-Woke c = let w = c.put_ok.ensures in rw c.in-Woke.is (record { wrote = record { room = w.wrote.room; ends = w.wrote.ends; left = w.wrote.left }; upper_bound = omega (arith, w.upper_bound) })
+returns-in-Woke c =
+    let woken = c.args.woken.now in
+    let long : length woken ≡ jobs = search rules in
+    let same : take c.min-some.result woken ≡ take c.in-Woke.count woken =
+    rw (c.min-some.ensures, ← long) (take_min c.in-Woke.count woken) in
+    let w = c.put_ok.ensures in
+    rw (c.in-Woke.is, ← same) (record { wrote = w.wrote; upper_bound = omega (arith, w.upper_bound) })
