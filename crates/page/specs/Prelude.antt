@@ -1,5 +1,5 @@
 -- The names from outside that this crate's definitions and proofs use, passed on by one module.
-pub use Rattle.std.specs.Prelude.{◌-◌, ◌<◌, ◌≤◌, ℕ, not, List, ◌≡◌, refl, get_or, length}
+pub use Rattle.std.specs.Prelude.{◌-◌, ◌<◌, ◌≤◌, ℕ, not, List, ◌≡◌, refl, get_or, length, take}
 pub use Rattle.std.proofs.Common.{◌∙◌, ap, subst, sym, zero-add, arith, le-ltb, lt-ltb}
 pub use Rattle.std.proofs.lemmas.Bool.{not-false}
 pub use Rattle.laws.specs.CaseLaws.{leaves_is, outcome_is}
@@ -12,6 +12,7 @@ pub use Rattle.event.specs.Answers.{answer_by}
 pub use Rattle.event.specs.Limits.{jobs}
 pub use Rattle.event.proofs.RefusalLaws.{refusal_of_number_of}
 pub use Rattle.decimal.specs.TextLaws.{length_text_u64}
+pub use Rattle.rows.specs.InLine.{line_below}
 pub use Rattle.rows.specs.Line.{line, row_of}
 pub use Rattle.rows.specs.declared.row.Row.{Row}
 pub use Rattle.line.specs.LineInCode.{Lines}

@@ -45,10 +45,8 @@ fn put_numbers(numbers: &[u64], out: &mut [u8], at: usize) -> usize
     ensures upper_bound { result ≤ at + number_room * length numbers.now }
 {
     let mut end = at;
-    let mut i = 0;
-    while i < numbers.len() {
-        end = put_spaced(numbers[i], out, end);
-        i += 1;
+    for &n in numbers {
+        end = put_spaced(n, out, end);
     }
     end
 }
@@ -71,13 +69,12 @@ fn put_head(t: Table, live: usize, out: &mut [u8]) -> usize
     ensures wrote { Wrote out.old 0 (head_line t) result out.new }
     ensures upper_bound { result ≤ head_room }
 {
-    let last = t.last;
     let numbers = [
         t.tokens as u64,
         t.resources as u64,
         t.limit as u64,
         t.time,
-        last.0,
+        t.last.0,
         live as u64,
     ];
     put_word_and_numbers(b"table", &numbers, out, 0)
@@ -89,10 +86,9 @@ fn put_row(job: u8, row: Row, out: &mut [u8], at: usize) -> usize
     ensures wrote { Wrote out.old at (row_line job row) result out.new }
     ensures upper_bound { result ≤ at + row_room }
 {
-    let turn = row.turn;
     let numbers = [
         job as u64,
-        turn.0,
+        row.turn.0,
         row.declared,
         row.held,
         row.asked,
@@ -107,15 +103,9 @@ fn put_rows(rows: [Row; JOBS], line: Line, out: &mut [u8], at: usize) -> usize
     requires len_in_bounds { at + row_room * line.len ≤ length out.old }
     ensures { Wrote out.old at (live_lines rows) result out.new }
 {
-    let jobs = line.jobs;
-    let len = line.len;
     let mut end = at;
-    let mut p = 0;
-    while p < len {
-        let job = jobs[p];
-        let r = rows[job as usize];
-        end = put_row(job, r, out, end);
-        p += 1;
+    for &job in &line.jobs[..line.len] {
+        end = put_row(job, rows[job as usize], out, end);
     }
     end
 }
@@ -124,16 +114,13 @@ fn put_rows(rows: [Row; JOBS], line: Line, out: &mut [u8], at: usize) -> usize
 pub fn put_page(table: Table, out: &mut [u8]) -> Shown
     ensures { PutPage table out.old result out.new }
 {
-    let rows = table.rows;
-    let s = survey(rows, bounds(table), 0);
-    let seen = s.seen;
-    if !seen.sound {
+    let surveyed = survey(table.rows, bounds(table), 0);
+    if !surveyed.seen.sound {
         return Shown::No(Refusal::UnsoundTable);
     }
     if out.len() < PAGE {
         return Shown::No(Refusal::WrongSize);
     }
-    let line = s.line;
-    let next = put_head(table, line.len, out);
-    Shown::Length(put_rows(rows, line, out, next))
+    let next = put_head(table, surveyed.line.len, out);
+    Shown::Length(put_rows(table.rows, surveyed.line, out, next))
 }
