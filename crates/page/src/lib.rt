@@ -3,6 +3,7 @@
 
 ghost use Rattle.std.specs.Prelude.{◌+◌, ◌*◌, ◌≤◌, ◌++◌, ◌≡◌, length};
 ghost use Rattle.decimal.specs.Text.{ascii, text};
+ghost use Rattle.event.specs.Limits.{jobs};
 ghost use Rattle.laws.specs.Front.{Wrote};
 ghost use Rattle.line.specs.LineInCode.{Lines};
 ghost use Rattle.lines.specs.Lines.{items};
@@ -21,13 +22,6 @@ use rows::Row;
 // The room that the longest page takes: "table" and six numbers, then for each job "row" and six numbers; each number
 // takes a space and at most 20 digits.
 pub const PAGE: usize = 132 + 130 * JOBS;
-
-// What putting a page gives: a refusal, or how many bytes it has.
-#[derive(Clone, Copy)]
-pub enum Shown {
-    No(Refusal),
-    Length(usize),
-}
 
 // Puts a space and then a number.
 fn put_spaced(n: u64, out: &mut [u8], at: usize) -> usize
@@ -63,10 +57,10 @@ pub fn put_word_and_numbers(word: &[u8], numbers: &[u64], out: &mut [u8], at: us
 }
 
 // Puts the first line of a table with this many live rows at the front of out.
-fn put_head(t: Table, live: usize, out: &mut [u8]) -> usize
-    requires live_value { live ≡ length (line t.rows) }
+fn put_head(t: &Table, live: usize, out: &mut [u8]) -> usize
+    requires live_value { live ≡ length (line t.now.rows) }
     requires head_room_in_bounds { head_room ≤ length out.old }
-    ensures wrote { Wrote out.old 0 (head_line t) result out.new }
+    ensures wrote { Wrote out.old 0 (head_line t.now) result out.new }
     ensures upper_bound { result ≤ head_room }
 {
     let numbers = [
@@ -81,9 +75,9 @@ fn put_head(t: Table, live: usize, out: &mut [u8]) -> usize
 }
 
 // Puts the line of a job's row.
-fn put_row(job: u8, row: Row, out: &mut [u8], at: usize) -> usize
+fn put_row(job: u8, row: &Row, out: &mut [u8], at: usize) -> usize
     requires { at + row_room ≤ length out.old }
-    ensures wrote { Wrote out.old at (row_line job row) result out.new }
+    ensures wrote { Wrote out.old at (row_line job row.now) result out.new }
     ensures upper_bound { result ≤ at + row_room }
 {
     let numbers = [
@@ -98,29 +92,29 @@ fn put_row(job: u8, row: Row, out: &mut [u8], at: usize) -> usize
 }
 
 // Puts the lines of the live rows, in order of turn.
-fn put_rows(rows: [Row; JOBS], line: Line, out: &mut [u8], at: usize) -> usize
-    requires lines { Lines rows line }
-    requires len_in_bounds { at + row_room * line.len ≤ length out.old }
-    ensures { Wrote out.old at (live_lines rows) result out.new }
+fn put_rows(rows: &[Row; JOBS], line: &Line, out: &mut [u8], at: usize) -> usize
+    requires lines { Lines rows.now line.now }
+    requires room { at + row_room * jobs ≤ length out.old }
+    ensures { Wrote out.old at (live_lines rows.now) result out.new }
 {
     let mut end = at;
     for &job in &line.jobs[..line.len] {
-        end = put_row(job, rows[job as usize], out, end);
+        end = put_row(job, &rows[job as usize], out, end);
     }
     end
 }
 
 // Puts the page of a table at the front of out. What comes after it is kept; a refusal keeps all.
-pub fn put_page(table: Table, out: &mut [u8]) -> Shown
-    ensures { PutPage table out.old result out.new }
+pub fn put_page(table: &Table, out: &mut [u8]) -> Result<usize, Refusal>
+    ensures { PutPage table.now out.old result out.new }
 {
-    let surveyed = survey(table.rows, bounds(table), 0);
+    let surveyed = survey(table.rows, bounds(*table), 0);
     if !surveyed.seen.sound {
-        return Shown::No(Refusal::UnsoundTable);
+        return Err(Refusal::UnsoundTable);
     }
     if out.len() < PAGE {
-        return Shown::No(Refusal::WrongSize);
+        return Err(Refusal::WrongSize);
     }
     let next = put_head(table, surveyed.line.len, out);
-    Shown::Length(put_rows(table.rows, surveyed.line, out, next))
+    Ok(put_rows(&table.rows, &surveyed.line, out, next))
 }
