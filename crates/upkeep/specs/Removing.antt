@@ -1,30 +1,23 @@
 -- Laws of a list without one of its entries.
-use Rattle.std.specs.Prelude.{◌++◌, ◌<◌, ◌∷◌, ◌≡◌, ◌≢◌, ◌≤◌}
-use Rattle.upkeep.specs.Prelude.{List, [], ap, arith, besides, drop, eq-eqb, get_or, keep, le_of_suc-le-suc, length, ne_eqb, not-suc-le-zero, refl, set, suc, sym, take, zero, zero-lt-suc, ℕ}
+use Rattle.std.specs.Prelude.{◌+◌, ◌++◌, ◌-◌, ◌<◌, ◌∷◌, ◌≡◌, ◌≢◌, ◌≤◌}
+use Rattle.std.specs.List.{copy_within}
+use Rattle.std.proofs.lemmas.List.{length-drop, drop-take, take-take}
+use Rattle.std.proofs.lemmas.List.Edits.{take-paste}
+use Rattle.upkeep.specs.Prelude.{◌∙◌, add-one, List, [], ap, arith, besides, drop, eq-eqb, get_or, keep, le_of_suc-le-suc, length, ne_eqb, not-suc-le-zero, refl, suc, sym, take, zero, zero-lt-suc, ℕ}
 use Rattle.upkeep.specs.Upkeep.{removed}
 
--- the entry after a place is copied there, and its own place is free
-pub removed_next : (l : List ℕ) (p : ℕ) → suc p < length l → removed (suc p) (set l p (get_or l (suc p) 0)) ≡ removed p l
-removed_next [] p h = absurd (not-suc-le-zero h)
-removed_next (x ∷ []) p h = absurd (not-suc-le-zero (le_of_suc-le-suc h))
-removed_next (x ∷ y ∷ l) zero h = refl
-removed_next (x ∷ y ∷ l) (suc p) h = ap (λ (m : List ℕ). x ∷ m) (removed_next (y ∷ l) p (le_of_suc-le-suc h))
-
--- before the place nothing has moved
-pub removed_front : (l : List ℕ) (p : ℕ) → p ≤ length l → take p (removed p l) ≡ take p l
-removed_front l zero h = refl
-removed_front [] (suc p) h = absurd (not-suc-le-zero h)
-removed_front (x ∷ l) (suc p) h = ap (λ (m : List ℕ). x ∷ m) (removed_front l p (le_of_suc-le-suc h))
-
--- the first entries without one of them
-pub removed_take : (l : List ℕ) (p n : ℕ) → p ≤ n → take n (removed p l) ≡ removed p (take (suc n) l)
-removed_take [] zero zero h = refl
-removed_take [] zero (suc n) h = refl
-removed_take [] (suc p) zero h = refl
-removed_take [] (suc p) (suc n) h = refl
-removed_take (x ∷ l) zero n h = refl
-removed_take (x ∷ l) (suc p) zero h = absurd (not-suc-le-zero h)
-removed_take (x ∷ l) (suc p) (suc n) h = ap (λ (m : List ℕ). x ∷ m) (removed_take l p n (le_of_suc-le-suc h))
+-- with those behind a place copied one place forward, the list but for its last entry is the list without that place
+pub removed_copied :
+    (l : List ℕ) (p n : ℕ) → p < n → n ≤ length l → take (n - 1) (copy_within l (p + 1) n p) ≡ removed p (take n l)
+removed_copied l p n h inside =
+    let m = n - (p + 1) in
+    let first : n - 1 ≡ p + m = omega arith in
+    let all : n ≡ suc p + m = omega arith in
+    rw first (take-paste l p (drop (p + 1) l) m (omega arith) (omega (arith, length-drop (p + 1) l)))
+    ∙ (λ i. sym (take-take p n l (omega arith)) i ++ rest m all i)
+  where
+    rest : (m : ℕ) → n ≡ suc p + m → take m (drop (p + 1) l) ≡ drop (suc p) (take n l)
+    rest m e = rw (e, add-one p) (sym (drop-take (suc p) m l))
 
 -- where it is the last, the list is the others and it
 pub removed_last : (l m : List ℕ) (k : ℕ) → length m < length l → removed (length m) l ≡ m → get_or l (length m) 0 ≡ k → l ≡ m ++ k ∷ []
