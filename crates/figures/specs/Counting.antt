@@ -1,21 +1,20 @@
 -- What one record adds to the figures.
 use Rattle.std.specs.Prelude.{◌-◌, ◌==◌, if◌then◌else◌}
-use Rattle.figures.specs.Prelude.{List, None, Option, Some, count, fold, jobs, min, replicate, take, ℕ}
+use Rattle.figures.specs.Prelude.{Err, List, None, Ok, Option, Result, Some, count, fold, jobs, min, replicate, take, ℕ}
 use Rattle.arbiter.specs.Meaning.{overdue, overdue_list, report}
 use Rattle.arbiter.specs.Sound.{row_in}
 use Rattle.arbiter.specs.declared.table.Table.{Table}
 use Rattle.decision.specs.declared.answer.Answer.{Answer}
-use Rattle.decision.specs.declared.answer.Answer.TheVariants.{No}
 use Rattle.event.specs.Clock.{forward}
 use Rattle.event.specs.Events.{shape_of}
-use Rattle.event.specs.Refusals.{number_of}
+use Rattle.event.specs.Refusals.{number_of, outcome_of}
 use Rattle.event.specs.declared.events.Kind.{Kind}
 use Rattle.event.specs.declared.events.Parts.{Parts}
+use Rattle.event.specs.declared.refusal.Refusal.{Refusal}
 use Rattle.follow.specs.Follow.{state_of}
 use Rattle.follow.specs.Visits.{parts_read, woken_by}
 use Rattle.follow.specs.declared.visit.Visit.{Visit}
 use Rattle.laws.specs.Cases.{Outcome, fine}
-use Rattle.record.specs.Format.{reading_of}
 use Rattle.rows.specs.Order.{live}
 use Rattle.figures.specs.Sheet.{accepted_at, figures_of, late_at, more, raised, refused_as, refused_once, waited, with_job}
 use Rattle.figures.specs.declared.sheet.Figures.{Figures}
@@ -23,9 +22,9 @@ use Rattle.figures.specs.declared.sheet.JobFigures.{JobFigures}
 use Rattle.figures.specs.declared.sheet.Stamp.{Stamp}
 
 -- the figures after the answer to the record of this number: the first is the start if it was accepted
-abbrev pub answered : Figures → ℕ → Answer → ℕ → Figures
-answered f number (No r) time = refused_as f (number_of r)
-answered f number _ time = if number == 1 then record f { from = time } else f
+abbrev pub answered : Figures → ℕ → Result Answer Refusal → ℕ → Figures
+answered f number (Err r) time = refused_as f (number_of r)
+answered f number (Ok a) time = if number == 1 then record f { from = time } else f
 
 -- those after a table: how many requests are live and how many tokens in use
 abbrev pub seen : Figures → Table → Figures
@@ -46,12 +45,12 @@ with_late f number t tick =
     told_late f number (overdue jobs t tick) (overdue_list t tick (replicate jobs 0)) (forward t.time tick)
 
 -- those of a job after an event that names it was answered so
-abbrev pub answered_to : Kind → Answer → ℕ → JobFigures → JobFigures
-answered_to kind (No r) time j = refused_once j
-answered_to kind _ time j = accepted_at kind time j
+abbrev pub answered_to : Kind → Result Answer Refusal → ℕ → JobFigures → JobFigures
+answered_to kind (Err r) time j = refused_once j
+answered_to kind (Ok a) time j = accepted_at kind time j
 
 -- the figures after an event of this kind that names a job
-abbrev pub with_named : Kind → Answer → ℕ → Figures → ℕ → Figures
+abbrev pub with_named : Kind → Result Answer Refusal → ℕ → Figures → ℕ → Figures
 with_named kind answer time f job =
     let j = figures_of f job in with_job f job (answered_to kind answer time (record j { named = more j.named }))
 
@@ -71,4 +70,4 @@ with_event (Some p) v f =
 -- those after a record
 abbrev pub counted : Figures → Visit → Figures
 counted f v =
-    with_event (parts_read (reading_of v.reading)) v (seen (answered f v.number v.answer v.after.now.time) v.after.now)
+    with_event (parts_read (outcome_of v.reading)) v (seen (answered f v.number v.answer v.after.now.time) v.after.now)

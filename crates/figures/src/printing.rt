@@ -4,40 +4,13 @@ ghost use Rattle.event.specs.Limits.{jobs};
 
 use crate::sheet::{Figures, JobFigures, NUMBERS, Overdue, Stamp};
 use arbiter::Table;
-use event::{Refusal, number};
+use event::Refusal;
 use follow::{State, state_of};
 use stream::Printer;
 use words::reason;
 
 // How many ticks there are before they begin again.
 const WRAP: u64 = 4_294_967_296;
-
-// The refusals by number.
-const REFUSALS: [Refusal; 23] = [
-    Refusal::BadStart,
-    Refusal::ShortList,
-    Refusal::UnsoundTable,
-    Refusal::NoSuchJob,
-    Refusal::ClockGoneBack,
-    Refusal::TimeSpent,
-    Refusal::AlreadyLive,
-    Refusal::NotLive,
-    Refusal::NoToken,
-    Refusal::StillWaiting,
-    Refusal::EmptySet,
-    Refusal::NoSuchResource,
-    Refusal::NotDeclared,
-    Refusal::AlreadyHeld,
-    Refusal::NotHeld,
-    Refusal::TurnsSpent,
-    Refusal::WrongLength,
-    Refusal::UnknownKind,
-    Refusal::BitSet,
-    Refusal::StartOutOfPlace,
-    Refusal::WrongSize,
-    Refusal::UnknownVersion,
-    Refusal::ClockLeap,
-];
 
 // How often records were refused so, if they were.
 fn refusals(printer: &mut Printer<impl Print + Eprint>, refusal: Refusal, count: u64)
@@ -46,7 +19,7 @@ fn refusals(printer: &mut Printer<impl Print + Eprint>, refusal: Refusal, count:
     if count == 0 {
         return;
     }
-    printer.word(b"refused as ", number(refusal) as u64);
+    printer.word(b"refused as ", u32::from(refusal) as u64);
     printer.word(b": ", count);
     printer.text(b", ");
     reason(printer, refusal);
@@ -57,8 +30,10 @@ fn refusals(printer: &mut Printer<impl Print + Eprint>, refusal: Refusal, count:
 fn all_refusals(printer: &mut Printer<impl Print + Eprint>, by_number: &[u64; NUMBERS])
     ensures { printer.old.failures ≤ printer.new.failures }
 {
-    for refusal in REFUSALS {
-        refusals(printer, refusal, by_number[number(refusal) as usize]);
+    for (number, count) in (0u32..).zip(by_number) {
+        if let Some(refusal) = Refusal::numbered(number) {
+            refusals(printer, refusal, *count);
+        }
     }
 }
 

@@ -3,7 +3,7 @@ ghost use Rattle.std.specs.Prelude.{◌≡◌};
 ghost use Rattle.event.specs.Refusals.{number_of};
 ghost use Rattle.figures.specs.Sheet.{accepted_at, late_at, no_figures, raised, refused_as, waited};
 
-use event::{JOBS, Kind, Refusal, number};
+use event::{JOBS, Kind, Refusal};
 use follow::State;
 
 // How many numbers of refusals there are: 1 to 23, and 0, which no refusal has.
@@ -132,11 +132,9 @@ impl Figures {
     pub fn refuse(&mut self, refusal: Refusal)
         ensures { self.new ≡ refused_as self.old (number_of refusal) }
     {
-        let at = number(refusal) as usize;
+        let number = u32::from(refusal) as usize;
         self.refused = self.refused.saturating_add(1);
-        if at < NUMBERS {
-            self.by_number[at] = self.by_number[at].saturating_add(1);
-        }
+        self.by_number[number] = self.by_number[number].saturating_add(1);
     }
 
     // How many requests are live and how many tokens in use.

@@ -32,42 +32,27 @@ fn put_job(job: u8, out: &mut [u8], at: usize) -> usize
     put_number(b" ", job as u64, out, at)
 }
 
-// Puts the first `count` jobs of a list, each after a space.
-fn put_jobs(jobs: &[u8], count: usize, out: &mut [u8], at: usize) -> usize
-    requires count_in_bounds { count ≤ length jobs.now }
-    requires count_in_bounds_2 { at + 4 * count ≤ length out.old }
-    ensures wrote { Wrote out.old at (items (take count jobs.now)) result out.new }
-    ensures upper_bound { result ≤ at + 4 * count }
+// Puts each job of a list after a space.
+fn put_jobs(jobs: &[u8], out: &mut [u8], at: usize) -> usize
+    requires { at + 4 * length jobs.now ≤ length out.old }
+    ensures wrote { Wrote out.old at (items jobs.now) result out.new }
+    ensures upper_bound { result ≤ at + 4 * length jobs.now }
 {
     let mut end = at;
-    let mut i = 0;
-    while i < count {
-        end = put_job(jobs[i], out, end);
-        i += 1;
+    for &job in jobs {
+        end = put_job(job, out, end);
     }
     end
 }
 
-// The smaller of a count and a length.
-fn at_most(count: u32, len: usize) -> usize
-    ensures { result ≡ min count len }
-{
-    if len <= count as usize {
-        len
-    } else {
-        count as usize
-    }
-}
-
-// Puts `ok` and the first `count` jobs of a list, or all of them if there are fewer.
-fn put_ok(jobs: &[u8], count: u32, out: &mut [u8], at: usize) -> usize
+// Puts `ok` and these jobs.
+fn put_ok(jobs: &[u8], out: &mut [u8], at: usize) -> usize
     requires { at + 3 + 4 * length jobs.now ≤ length out.old }
-    ensures wrote { Wrote out.old at (word_text (ok (take count jobs.now))) result out.new }
+    ensures wrote { Wrote out.old at (word_text (ok jobs.now)) result out.new }
     ensures upper_bound { result ≤ at + 3 + 4 * length jobs.now }
 {
     let next = put(b" ok", out, at);
-    let some = at_most(count, jobs.len());
-    put_jobs(jobs, some, out, next)
+    put_jobs(jobs, out, next)
 }
 
 // Puts `no` and the number of a refusal.
@@ -91,7 +76,10 @@ fn put_word(answer: Answer, woken: &[u8; JOBS], out: &mut [u8], at: usize) -> us
         Answer::Granted => put(b" ok", out, at),
         Answer::Wait => put(b" wait", out, at),
         Answer::Done => put(b" ok", out, at),
-        Answer::Woke(count) => put_ok(woken, count, out, at),
+        Answer::Woke(count) => {
+            let some = (count as usize).min(woken.len());
+            put_ok(&woken[..some], out, at)
+        }
     }
 }
 
@@ -110,7 +98,7 @@ pub fn put_line(number: u64, answer: Answer, woken: &[u8; JOBS], out: &mut [u8],
 pub fn tokens_in(tokens: u32, live: u32) -> u32
     ensures { result ≡ min tokens live }
 {
-    if tokens < live { tokens } else { live }
+    tokens.min(live)
 }
 
 // Puts the last line at place `at`.
@@ -118,8 +106,7 @@ pub fn put_end(table: Table, out: &mut [u8], at: usize) -> usize
     requires { at + line_room ≤ length out.old }
     ensures { Wrote out.old at (end_line table) result out.new }
 {
-    let rows = table.rows;
-    let live = live_count(rows);
+    let live = live_count(&table.rows);
     let tokens = tokens_in(table.tokens, live);
     let next = put_number(b"end ", live as u64, out, at);
     let end = put_number(b" ", tokens as u64, out, next);

@@ -1,14 +1,13 @@
 -- What putting a table's page into a room answers, and what it leaves there.
-use Rattle.std.specs.Prelude.{ℕ, not, List, [], ◌∷◌, ltb, length}
+use Rattle.std.specs.Prelude.{ℕ, not, List, [], ◌∷◌, ltb, length, Result, Ok, Err}
 use Rattle.arbiter.specs.Sound.{sound}
 use Rattle.arbiter.specs.declared.table.Table.{Table}
 use Rattle.event.specs.Refusals.{number_of, refusing}
+use Rattle.event.specs.declared.refusal.Refusal.{Refusal}
 use Rattle.event.specs.declared.refusal.Refusal.TheVariants.{UnsoundTable, WrongSize}
 use Rattle.laws.specs.Cases.{Case, Outcome, fine, leaves, outcome, refused}
 use Rattle.laws.specs.Front.{over}
 use Rattle.page.specs.Page.{page, page_room}
-use Rattle.page.specs.declared.Shown.{Shown}
-use Rattle.page.specs.declared.Shown.TheVariants as shown
 
 -- when no page is put into a room of this many bytes
 abbrev pub page_cases : ℕ → Table → List Case
@@ -22,7 +21,7 @@ page_answer t room = outcome (page_cases (length room) t) (length (page t))
 unfoldable pub room_after : Table → List ℕ → List ℕ
 room_after t room = leaves (page_cases (length room) t) room (over (page t) room)
 
--- what a Shown says
-abbrev pub shown_of : Shown → Outcome ℕ
-shown_of (shown.No r) = refused (number_of r)
-shown_of (shown.Length n) = fine n
+-- a refusal by its number
+abbrev pub outcome_of : Result ℕ Refusal → Outcome ℕ
+outcome_of (Err r) = refused (number_of r)
+outcome_of (Ok n) = fine n

@@ -1,5 +1,5 @@
 -- The names from outside that this crate's definitions and proofs use, passed on by one module.
-pub use Rattle.std.specs.Prelude.{◌-◌, ◌<◌, ◌≤◌, ℕ, not, List, ◌≡◌, refl, get_or, length}
+pub use Rattle.std.specs.Prelude.{◌-◌, ◌<◌, ◌≤◌, ℕ, not, List, ◌≡◌, refl, get_or, length, take}
 pub use Rattle.std.proofs.Common.{◌∙◌, ap, subst, sym, zero-add, arith, le-ltb, lt-ltb}
 pub use Rattle.std.proofs.lemmas.Bool.{not-false}
 pub use Rattle.laws.specs.CaseLaws.{leaves_is, outcome_is}
@@ -10,8 +10,10 @@ pub use Rattle.laws.specs.FrontLaws.{laid_front, then, wrote_length}
 pub use Rattle.laws.specs.Determined.{determined, told_apart}
 pub use Rattle.event.specs.Answers.{answer_by}
 pub use Rattle.event.specs.Limits.{jobs}
+pub use Rattle.event.specs.declared.refusal.Refusal.{Refusal}
 pub use Rattle.event.proofs.RefusalLaws.{refusal_of_number_of}
 pub use Rattle.decimal.specs.TextLaws.{length_text_u64}
+pub use Rattle.rows.specs.InLine.{length_lined_le, line_below}
 pub use Rattle.rows.specs.Line.{line, row_of}
 pub use Rattle.rows.specs.declared.row.Row.{Row}
 pub use Rattle.line.specs.LineInCode.{Lines}
@@ -24,4 +26,3 @@ pub use Rattle.arbiter.specs.Sound.{sound}
 pub use Rattle.arbiter.specs.declared.table.Table.{Table}
 pub use Rattle.lines.specs.Lines.{items}
 pub use Rattle.lines.specs.PieceLaws.{Pieces, Putting, item_pieces, putting_all, putting_length, putting_more, putting_none}
-pub use Rattle.page.specs.declared.Shown.{Shown}

@@ -3,6 +3,7 @@
 
 ghost use Rattle.std.specs.Prelude.{◌+◌, ◌*◌, ◌≤◌, ◌++◌, ◌≡◌, length};
 ghost use Rattle.decimal.specs.Text.{ascii, text};
+ghost use Rattle.event.specs.Limits.{jobs};
 ghost use Rattle.laws.specs.Front.{Wrote};
 ghost use Rattle.line.specs.LineInCode.{Lines};
 ghost use Rattle.lines.specs.Lines.{items};
@@ -22,13 +23,6 @@ use rows::Row;
 // takes a space and at most 20 digits.
 pub const PAGE: usize = 132 + 130 * JOBS;
 
-// What putting a page gives: a refusal, or how many bytes it has.
-#[derive(Clone, Copy)]
-pub enum Shown {
-    No(Refusal),
-    Length(usize),
-}
-
 // Puts a space and then a number.
 fn put_spaced(n: u64, out: &mut [u8], at: usize) -> usize
     requires { at + number_room ≤ length out.old }
@@ -45,10 +39,8 @@ fn put_numbers(numbers: &[u64], out: &mut [u8], at: usize) -> usize
     ensures upper_bound { result ≤ at + number_room * length numbers.now }
 {
     let mut end = at;
-    let mut i = 0;
-    while i < numbers.len() {
-        end = put_spaced(numbers[i], out, end);
-        i += 1;
+    for &n in numbers {
+        end = put_spaced(n, out, end);
     }
     end
 }
@@ -65,34 +57,32 @@ pub fn put_word_and_numbers(word: &[u8], numbers: &[u64], out: &mut [u8], at: us
 }
 
 // Puts the first line of a table with this many live rows at the front of out.
-fn put_head(t: Table, live: usize, out: &mut [u8]) -> usize
-    requires live_value { live ≡ length (line t.rows) }
+fn put_head(t: &Table, live: usize, out: &mut [u8]) -> usize
+    requires live_value { live ≡ length (line t.now.rows) }
     requires head_room_in_bounds { head_room ≤ length out.old }
-    ensures wrote { Wrote out.old 0 (head_line t) result out.new }
+    ensures wrote { Wrote out.old 0 (head_line t.now) result out.new }
     ensures upper_bound { result ≤ head_room }
 {
-    let last = t.last;
     let numbers = [
         t.tokens as u64,
         t.resources as u64,
         t.limit as u64,
         t.time,
-        last.0,
+        t.last.0,
         live as u64,
     ];
     put_word_and_numbers(b"table", &numbers, out, 0)
 }
 
 // Puts the line of a job's row.
-fn put_row(job: u8, row: Row, out: &mut [u8], at: usize) -> usize
+fn put_row(job: u8, row: &Row, out: &mut [u8], at: usize) -> usize
     requires { at + row_room ≤ length out.old }
-    ensures wrote { Wrote out.old at (row_line job row) result out.new }
+    ensures wrote { Wrote out.old at (row_line job row.now) result out.new }
     ensures upper_bound { result ≤ at + row_room }
 {
-    let turn = row.turn;
     let numbers = [
         job as u64,
-        turn.0,
+        row.turn.0,
         row.declared,
         row.held,
         row.asked,
@@ -102,38 +92,29 @@ fn put_row(job: u8, row: Row, out: &mut [u8], at: usize) -> usize
 }
 
 // Puts the lines of the live rows, in order of turn.
-fn put_rows(rows: [Row; JOBS], line: Line, out: &mut [u8], at: usize) -> usize
-    requires lines { Lines rows line }
-    requires len_in_bounds { at + row_room * line.len ≤ length out.old }
-    ensures { Wrote out.old at (live_lines rows) result out.new }
+fn put_rows(rows: &[Row; JOBS], line: &Line, out: &mut [u8], at: usize) -> usize
+    requires lines { Lines rows.now line.now }
+    requires room { at + row_room * jobs ≤ length out.old }
+    ensures { Wrote out.old at (live_lines rows.now) result out.new }
 {
-    let jobs = line.jobs;
-    let len = line.len;
     let mut end = at;
-    let mut p = 0;
-    while p < len {
-        let job = jobs[p];
-        let r = rows[job as usize];
-        end = put_row(job, r, out, end);
-        p += 1;
+    for &job in &line.jobs[..line.len] {
+        end = put_row(job, &rows[job as usize], out, end);
     }
     end
 }
 
 // Puts the page of a table at the front of out. What comes after it is kept; a refusal keeps all.
-pub fn put_page(table: Table, out: &mut [u8]) -> Shown
-    ensures { PutPage table out.old result out.new }
+pub fn put_page(table: &Table, out: &mut [u8]) -> Result<usize, Refusal>
+    ensures { PutPage table.now out.old result out.new }
 {
-    let rows = table.rows;
-    let s = survey(rows, bounds(table), 0);
-    let seen = s.seen;
-    if !seen.sound {
-        return Shown::No(Refusal::UnsoundTable);
+    let surveyed = survey(table.rows, bounds(*table), 0);
+    if !surveyed.seen.sound {
+        return Err(Refusal::UnsoundTable);
     }
     if out.len() < PAGE {
-        return Shown::No(Refusal::WrongSize);
+        return Err(Refusal::WrongSize);
     }
-    let line = s.line;
-    let next = put_head(table, line.len, out);
-    Shown::Length(put_rows(rows, line, out, next))
+    let next = put_head(table, surveyed.line.len, out);
+    Ok(put_rows(&table.rows, &surveyed.line, out, next))
 }

@@ -1,6 +1,6 @@
 -- The names from outside that this crate's definitions and proofs use, passed on by one module.
-pub use Rattle.std.specs.Prelude.{◌*◌, ◌+◌, ◌-◌, ◌<◌, ◌≤◌, suc, ℕ, not, true, List, [], ◌++◌, ◌∷◌, ◌≡◌, refl, drop, get_or, length}
-pub use Rattle.std.proofs.Common.{◌∙◌, ap, sym, zero-add, add-one, arith, le-ltb, lt-ltb, drop_of_length-le, length-drop, drop-cons, length-take-le}
+pub use Rattle.std.specs.Prelude.{◌*◌, ◌+◌, ◌-◌, ◌<◌, ◌≤◌, suc, ℕ, not, true, List, [], ◌++◌, ◌∷◌, ◌≡◌, refl, drop, get_or, length, take}
+pub use Rattle.std.proofs.Common.{◌∙◌, ap, sym, zero-add, add-one, arith, le-ltb, lt-ltb, drop_of_length-le, length-drop, drop-cons, length-take, length-take-le}
 pub use Rattle.std.proofs.lemmas.Bool.{not-false}
 pub use Rattle.laws.specs.CaseLaws.{leaves_is, outcome_is}
 pub use Rattle.laws.specs.Cases.{fine, keep_unless, unless}
@@ -11,10 +11,10 @@ pub use Rattle.laws.specs.FrontLaws.{laid_front, laid_laid, laid_none, laid_part
 pub use Rattle.fields.specs.PackingLaws.{length_pack}
 pub use Rattle.event.specs.Answers.{answer_by}
 pub use Rattle.event.specs.Limits.{jobs}
+pub use Rattle.event.specs.declared.refusal.Refusal.{Refusal}
 pub use Rattle.event.proofs.RefusalLaws.{refusal_of_number_of}
 pub use Rattle.rows.specs.Line.{row_of}
 pub use Rattle.rows.specs.declared.row.Row.{Row}
 pub use Rattle.soundness.specs.Beside.{sound_by}
 pub use Rattle.soundness.specs.declared.Bounds.{Bounds}
 pub use Rattle.arbiter.specs.declared.table.Table.{Table}
-pub use Rattle.saving.specs.declared.Saved.{Saved}

@@ -1,10 +1,10 @@
 -- What saving promises.
-use Rattle.std.specs.Prelude.{ℕ, List, ◌≡◌}
+use Rattle.std.specs.Prelude.{ℕ, List, ◌≡◌, Result}
 use Rattle.arbiter.specs.declared.table.Table.{Table}
-use Rattle.saving.specs.Meaning.{room_after, save_answer, saved_of}
-use Rattle.saving.specs.declared.Saved.{Saved}
+use Rattle.event.specs.declared.refusal.Refusal.{Refusal}
+use Rattle.saving.specs.Meaning.{room_after, save_answer, outcome_of}
 
 -- Saving t into the room `before` answered r and left `after` there.
-pub record SavedInto (t : Table) (before : List ℕ) (r : Saved) (after : List ℕ) : Type 0 where
-  pub answers : saved_of r ≡ save_answer t before
+pub record SavedInto (t : Table) (before : List ℕ) (r : Result ℕ Refusal) (after : List ℕ) : Type 0 where
+  pub answers : outcome_of r ≡ save_answer t before
   pub leaves : after ≡ room_after t before

@@ -1,9 +1,12 @@
 -- The rows still to be written, and the file that they and the head make.
-use Rattle.std.specs.Prelude.{◌+◌, ◌++◌, ◌<◌, ◌∷◌, ◌≡◌, ◌≤◌}
-use Rattle.saving.specs.Prelude.{First, List, Row, Saved, Table, add-one, ap, arith, drop, drop-cons, get_or, keep_unless, laid, laid_front, laid_laid, leaves_is, length, length_pack, outcome_is, over, row_of, suc, sym, unless, zero-add, ℕ, ◌∙◌}
+use Rattle.std.specs.Prelude.{◌+◌, ◌++◌, ◌<◌, ◌∷◌, ◌≡◌, ◌≤◌, Result}
+use Rattle.saving.specs.Prelude.{First, List, Refusal, Row, Table, add-one, ap, arith, drop, drop-cons, get_or, keep_unless, laid, laid_front, laid_laid, leaves_is, length, length-take, length_pack, outcome_is, over, row_of, suc, sym, unless, zero-add, ℕ, ◌∙◌}
 use Rattle.service.specs.File.{file, head_bytes, head_of, head_order, head_size, head_widths, row_bytes, row_order, row_size, row_widths, rows_bytes, rows_of, rows_said, say_row, write_cases}
 use Rattle.service.specs.declared.format.FileRow.{FileRow}
-use Rattle.saving.specs.Meaning.{room_after, save_answer, saved_of}
+use Rattle.event.specs.Limits.{jobs}
+use Rattle.line.specs.LineInCode.{Lines}
+use Rattle.line.specs.declared.Line.{Line}
+use Rattle.saving.specs.Meaning.{room_after, save_answer, outcome_of}
 use Rattle.saving.specs.Promises.{SavedInto}
 
 -- a row is written where the rows left are to go: the others go after it
@@ -39,10 +42,14 @@ file_put t before middle after room e f =
     ∙ laid_laid before 0 head rows (omega arith)
     ∙ laid_front before (head ++ rows)
 
+-- a line in code has no more jobs than there are
+pub line_fits : (rows : List Row) {l : Line} → Lines rows l → length l.jobs ≡ jobs → l.len ≤ jobs
+line_fits rows {l} lines long = omega (arith, lines.number, ap length lines.list, length-take l.len l.jobs)
+
 -- what the first case that applies says
 pub saved_is :
-    (t : Table) (before : List ℕ) {n : ℕ} {r : Saved} {after : List ℕ} → First (write_cases (length before) t) n →
-    saved_of r ≡ unless n (length (file t)) → after ≡ keep_unless n before (over (file t) before) → SavedInto t before r after
+    (t : Table) (before : List ℕ) {n : ℕ} {r : Result ℕ Refusal} {after : List ℕ} → First (write_cases (length before) t) n →
+    outcome_of r ≡ unless n (length (file t)) → after ≡ keep_unless n before (over (file t) before) → SavedInto t before r after
 unfolding save_answer room_after
 saved_is t before f a l =
     record { answers = a ∙ outcome_is (length (file t)) f; leaves = l ∙ leaves_is before (over (file t) before) f }

@@ -15,39 +15,30 @@ use pass::survey;
 use rows::Row;
 use service::{FileHead, FileRow, HEAD, ROW, VERSION, put_head, put_row};
 
-// What saving gives: a refusal, or how many bytes the file has.
-#[derive(Clone, Copy)]
-pub enum Saved {
-    No(Refusal),
-    Length(u32),
-}
-
 // What the head says of a table with this many live rows.
-fn head_of(t: Table, count: usize) -> FileHead
-    requires { (1 ≤ t.tokens) × (1 ≤ t.resources) × (count ≡ length (line t.rows)) }
-    ensures { result ≡ head_of t }
+fn head_of(t: &Table, count: usize) -> FileHead
+    requires { (1 ≤ t.now.tokens) × (1 ≤ t.now.resources) × (count ≡ length (line t.now.rows)) }
+    ensures { result ≡ head_of t.now }
 {
-    let last = t.last;
     FileHead {
         version: VERSION,
         tokens: t.tokens as u64 - 1,
         resources: t.resources as u64 - 1,
         limit: t.limit as u64,
         time: t.time,
-        last: last.0,
+        last: t.last.0,
         count: count as u64,
         zero: 0,
     }
 }
 
 // What is said of a job's row.
-fn say_row(job: u8, row: Row) -> FileRow
-    ensures { result ≡ say_row job row }
+fn say_row(job: u8, row: &Row) -> FileRow
+    ensures { result ≡ say_row job row.now }
 {
-    let turn = row.turn;
     FileRow {
         job: job as u64,
-        turn: turn.0,
+        turn: row.turn.0,
         declared: row.declared,
         held: row.held,
         asked: row.asked,
@@ -57,39 +48,29 @@ fn say_row(job: u8, row: Row) -> FileRow
 }
 
 // Writes the rows of a line, one after the other, at the front of the room.
-fn put_rows(rows: [Row; JOBS], along: Line, room: &mut [u8])
-    requires { Lines rows along × (row_size * length (line rows) ≤ length room.old) }
-    ensures { room.new ≡ over (rows_bytes (rows_said rows (line rows))) room.old }
+fn put_rows(rows: &[Row; JOBS], along: &Line, room: &mut [u8])
+    requires { Lines rows.now along.now × (row_size * length (line rows.now) ≤ length room.old) }
+    ensures { room.new ≡ over (rows_bytes (rows_said rows.now (line rows.now))) room.old }
 {
-    let jobs = along.jobs;
-    let len = along.len;
-    let mut at: usize = 0;
-    let mut i: usize = 0;
-    while i < len {
-        let k = jobs[i];
-        let r = rows[k as usize];
-        put_row(say_row(k, r), &mut room[at..]);
-        at += ROW;
-        i += 1;
+    for (i, &job) in along.jobs[..along.len].iter().enumerate() {
+        put_row(say_row(job, &rows[job as usize]), &mut room[ROW * i..]);
     }
 }
 
 // Writes the file of a table at the front of the room. What comes after it is kept; a refusal keeps all.
-pub fn save(t: Table, room: &mut [u8]) -> Saved
-    ensures { SavedInto t room.old result room.new }
+pub fn save(t: &Table, room: &mut [u8]) -> Result<u32, Refusal>
+    ensures { SavedInto t.now room.old result room.new }
 {
-    let rows = t.rows;
-    let surveyed = survey(rows, bounds(t), 0);
-    let seen = surveyed.seen;
-    if !seen.sound {
-        return Saved::No(Refusal::UnsoundTable);
+    let surveyed = survey(t.rows, bounds(*t), 0);
+    if !surveyed.seen.sound {
+        return Err(Refusal::UnsoundTable);
     }
     let line = surveyed.line;
     let size = HEAD + ROW * line.len;
     if room.len() < size {
-        return Saved::No(Refusal::WrongSize);
+        return Err(Refusal::WrongSize);
     }
     put_head(head_of(t, line.len), room);
-    put_rows(rows, line, &mut room[HEAD..]);
-    Saved::Length(size as u32)
+    put_rows(&t.rows, &line, &mut room[HEAD..]);
+    Ok(size as u32)
 }

@@ -45,9 +45,9 @@ fn numbers(job: u64, row: &Row) -> Line {
 fn rows(printer: &mut Printer<impl Print + Eprint>, rows: &[Row; JOBS])
     ensures { printer.old.failures ≤ printer.new.failures }
 {
-    for (job, row) in (0u64..).zip(rows) {
+    for (job, row) in rows.iter().enumerate() {
         if !blank(row) {
-            print::line(printer, numbers(job, row));
+            print::line(printer, numbers(job as u64, row));
         }
     }
 }

@@ -82,18 +82,27 @@ impl<'a, R: Print + Eprint> Printer<'a, R> {
         }
     }
 
+    // Writes what waits and then the bytes, straight out.
+    pub fn write(&mut self, bytes: &[u8])
+        ensures none { self.new.at ≡ 0 }
+        ensures room { self.new.room ≡ self.old.room }
+        ensures kept { self.old.failures ≤ self.new.failures }
+    {
+        self.flush();
+        self.failures = hand_over(self.rt, self.failures, bytes);
+    }
+
     // Prints the bytes. They wait in the room, which is written first if they do not fit after what waits there; a text
     // that is longer than the room goes straight out.
     pub fn text(&mut self, bytes: &[u8])
         ensures printed { Printed self.old.room self.old.at bytes.now self.new.room self.new.at }
         ensures kept { self.old.failures ≤ self.new.failures }
     {
-        self.ready(bytes.len());
         if ROOM < bytes.len() {
-            self.failures = hand_over(self.rt, self.failures, bytes);
-        } else {
-            self.at = decimal::put(bytes, &mut self.room, self.at);
+            return self.write(bytes);
         }
+        self.ready(bytes.len());
+        self.at = decimal::put(bytes, &mut self.room, self.at);
     }
 
     // Prints a number in decimal.

@@ -6,7 +6,7 @@ use crate::dump::{job_value, value};
 use crate::variables::{VARIABLES, View, shown};
 use arbiter::Table;
 use decision::Answer;
-use event::{Parts, shape_of};
+use event::{Parts, Refusal};
 use follow::Visit;
 use lines::tokens_in;
 use rows::live_count;
@@ -20,12 +20,12 @@ pub struct Trace {
 }
 
 // How many records were refused, with one that was answered so.
-pub fn refusals_after(answer: Answer, refusals: u64) -> u64
+pub fn refusals_after(answer: Result<Answer, Refusal>, refusals: u64) -> u64
     ensures { result ≡ refused_after answer refusals }
 {
     match answer {
-        Answer::No(_) => refusals.saturating_add(1),
-        _ => refusals,
+        Err(_) => refusals.saturating_add(1),
+        Ok(_) => refusals,
     }
 }
 
@@ -59,8 +59,7 @@ fn job_in(printer: &mut Printer<impl Print + Eprint>, mask: &[u8], job: u32, vis
 fn jobs_in(printer: &mut Printer<impl Print + Eprint>, mask: &[u8], parts: Parts, visit: &Visit)
     ensures { printer.old.failures ≤ printer.new.failures }
 {
-    let shape = shape_of(parts.kind);
-    if shape.job {
+    if parts.kind.shape().job {
         job_in(printer, mask, parts.job, visit);
     }
     for job in visit.woken() {
@@ -70,7 +69,7 @@ fn jobs_in(printer: &mut Printer<impl Print + Eprint>, mask: &[u8], parts: Parts
 
 // How many requests are live, and how many tokens are in use.
 fn in_use(table: &Table) -> (u64, u64) {
-    let live = live_count(table.rows);
+    let live = live_count(&table.rows);
     (live as u64, tokens_in(table.tokens, live) as u64)
 }
 
@@ -103,9 +102,8 @@ impl Trace {
         let refusals = refusals_after(visit.answer, self.refusals);
         changed(printer, b'x', self.refusals, refusals);
         self.refusals = refusals;
-        match (visit.answer, visit.parts()) {
-            (Answer::No(_), _) | (_, None) => {}
-            (_, Some(parts)) => jobs_in(printer, mask, parts, visit),
+        if let (Ok(_), Some(parts)) = (visit.answer, visit.parts()) {
+            jobs_in(printer, mask, parts, visit);
         }
     }
 }

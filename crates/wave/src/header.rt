@@ -7,7 +7,7 @@ use crate::dump::{job_value, value};
 use crate::variables::{VARIABLES, Variable, shown};
 use arbiter::Table;
 use decision::Answer;
-use event::JOBS;
+use event::{JOBS, Refusal};
 use stream::Printer;
 
 // The variables of the drive.
@@ -90,7 +90,7 @@ fn drive_start(printer: &mut Printer<impl Print + Eprint>, time: u64, refusals: 
 pub fn first(
     printer: &mut Printer<impl Print + Eprint>,
     mask: &[u8],
-    answer: Answer,
+    answer: Result<Answer, Refusal>,
     table: &Table,
 ) -> Trace
     ensures kept { printer.old.failures ≤ printer.new.failures }

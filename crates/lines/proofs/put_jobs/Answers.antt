@@ -1,30 +1,22 @@
--- The loop keeps: the jobs before place i are written, and each took at most four bytes.
-use Rattle.std.specs.Prelude.{◌≡◌}
-use Rattle.lines.specs.Prelude.{Wrote, arith, refl, subst, take, ℕ}
-use Rattle.lines.specs.Lines.{items}
-use Rattle.lines.specs.PieceLaws.{item_pieces, putting_length, putting_more, putting_none}
+-- The loop keeps: the jobs so far are written, and each took at most four bytes.
+use Rattle.lines.specs.Prelude.{arith, refl}
+use Rattle.lines.specs.PieceLaws.{item_pieces, putting_all, putting_length, putting_more, putting_none}
 use Rattle.lines.proofs.put_jobs.Goals as goal
 
-pub loop-i-init : goal.loop-i-init
-loop-i-init c =
-    let a = c.args in
-    (omega arith, putting_none item_pieces a.jobs.now 4 a.out.now a.at (omega arith))
+pub loop-job-init : goal.loop-job-init
+loop-job-init c = putting_none item_pieces c.args.jobs.now 4 c.args.out.now c.args.at (omega arith)
 
 pub put_job-end-requires : goal.put_job-end-requires
 put_job-end-requires c =
-    let p = c.loop-i.invariant.1 in
-    omega (arith, c.requires, p.within, putting_length p)
+    let p = c.loop-job.invariant in
+    omega (arith, p.within, putting_length p)
 
-pub loop-i-preserved : goal.loop-i-preserved
-loop-i-preserved c =
-    let p = c.loop-i.invariant.1 in
+pub loop-job-preserved : goal.loop-job-preserved
+loop-job-preserved c =
     let w = c.put_job-end.ensures in
-    (omega arith, putting_more item_pieces 0 (omega arith) refl p w.wrote w.upper_bound)
+    putting_more item_pieces 0 (omega arith) refl c.loop-job.invariant w.wrote w.upper_bound
 
 pub returns : goal.returns
 returns c =
-    let a = c.args in
-    let at = c.loop-i in
-    let all : at.i ≡ a.count = omega arith in
-    let p = at.invariant.1 in
-    record { wrote = subst (λ (n : ℕ). Wrote a.out.now a.at (items (take n a.jobs.now)) at.end at.out) all p.wrote; upper_bound = omega (arith, p.within) }
+    let p = c.loop-job.invariant in
+    record { wrote = putting_all p (omega arith); upper_bound = omega (arith, p.within) }

@@ -1,11 +1,7 @@
--- The loop keeps: the jobs before place i are written, and each took at most four bytes.
-use Rattle.std.specs.Prelude.{◌-◌, ◌≤◌}
+-- The loop keeps: the jobs so far are written, and each took at most four bytes.
 use Rattle.lines.specs.Lines.{items}
 use Rattle.lines.specs.PieceLaws.{Putting}
 use Rattle.lines.proofs.put_jobs.Given as goal
 
-abbrev pub invariant-loop-i : goal.invariant-loop-i
-invariant-loop-i l = (l.i ≤ l.count) × Putting items l.jobs 4 l.initial.out l.at l.i l.end l.out
-
-abbrev pub decreases-loop-i : goal.decreases-loop-i
-decreases-loop-i l = l.count - l.i
+abbrev pub invariant-loop-job : goal.invariant-loop-job
+invariant-loop-job l = Putting items l.jobs 4 l.initial.out l.at l.job-index l.end l.out

@@ -4,23 +4,19 @@ use Rattle.lines.specs.Lines.{line}
 use Rattle.lines.proofs.put_line.Goals as goal
 
 pub write-word-requires : goal.write-word-requires
-write-word-requires c = omega (arith, length_text_u64 c.args.number (omega arith), c.requires)
+write-word-requires c = omega (arith, length_text_u64 c.args.number (omega arith))
 
 pub put_word-end-requires : goal.put_word-end-requires
-put_word-end-requires c =
-    let w = c.write-word.ensures in
-    omega (arith, w.ends, wrote_length w, length_text_u64 c.args.number (omega arith), c.requires)
+put_word-end-requires c = omega (arith, wrote_length c.write-word.ensures, length_text_u64 c.args.number (omega arith))
 
 pub put-requires : goal.put-requires
 put-requires c =
     let w = c.write-word.ensures in
-    let x = c.put_word-end.ensures in
-    omega (arith, w.ends, wrote_length w, wrote_length x.wrote, x.upper_bound, length_text_u64 c.args.number (omega arith), c.requires)
+    omega (arith, wrote_length w, wrote_length c.put_word-end.ensures.wrote, length_text_u64 c.args.number (omega arith))
 
-pub returns : goal.returns
+pub returns-clause-wrote : goal.returns-clause-wrote
 unfolding line
-returns c =
-    let w = c.write-word.ensures in
-    let x = c.put_word-end.ensures in
-    let y = c.put.ensures in
-    record { wrote = then (then w x.wrote) y; upper_bound = omega (arith, w.ends, x.upper_bound, y.ends, length_text_u64 c.args.number (omega arith)) }
+returns-clause-wrote c = then (then c.write-word.ensures c.put_word-end.ensures.wrote) c.put.ensures
+
+pub returns-clause-upper_bound : goal.returns-clause-upper_bound
+returns-clause-upper_bound c = omega (arith, c.put.ensures.ends, length_text_u64 c.args.number (omega arith))

@@ -4,11 +4,11 @@ use Rattle.lines.specs.Lines.{word_text}
 use Rattle.lines.proofs.put_no.Goals as goal
 
 pub put_number-requires : goal.put_number-requires
-put_number-requires c =
-    omega (arith, length_text 10 c.args.number (omega arith) (omega arith), c.requires)
+put_number-requires c = omega (arith, length_text 10 c.args.number (omega arith) (omega arith))
 
-pub returns : goal.returns
+pub returns-clause-wrote : goal.returns-clause-wrote
 unfolding word_text
-returns c =
-    let w = c.put_number.ensures in
-    record { wrote = w; upper_bound = omega (arith, w.ends, length_text 10 c.args.number (omega arith) (omega arith)) }
+returns-clause-wrote c = c.put_number.ensures
+
+pub returns-clause-upper_bound : goal.returns-clause-upper_bound
+returns-clause-upper_bound c = omega (arith, length_text 10 c.args.number (omega arith) (omega arith))

@@ -2,5 +2,5 @@
 use Rattle.std.specs.Prelude.{◌≤◌}
 use Rattle.figures.proofs.printing.all_refusals.Given as goal
 
-abbrev pub invariant-loop-refusal : goal.invariant-loop-refusal
-invariant-loop-refusal g l = l.initial.printer.failures ≤ l.printer.failures
+abbrev pub invariant-loop-number : goal.invariant-loop-number
+invariant-loop-number g l = l.initial.printer.failures ≤ l.printer.failures
