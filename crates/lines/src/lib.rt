@@ -11,7 +11,7 @@ ghost use Rattle.lines.specs.Promises.{line_room, word_from, word_room};
 use arbiter::Table;
 use decimal::put;
 use decision::Answer;
-use event::JOBS;
+use event::{JOBS, Refusal};
 use rows::live_count;
 
 // Puts a word and then a number.
@@ -65,18 +65,18 @@ fn put_no(number: u32, out: &mut [u8], at: usize) -> usize
 }
 
 // Puts the word for an answer; the jobs it woke stand at the front of a list.
-fn put_word(answer: Answer, woken: &[u8; JOBS], out: &mut [u8], at: usize) -> usize
+fn put_word(answer: Result<Answer, Refusal>, woken: &[u8; JOBS], out: &mut [u8], at: usize) -> usize
     requires { at + word_room ≤ length out.old }
     ensures wrote { Wrote out.old at (word_text (word_from (said_of answer) woken.now)) result out.new }
     ensures upper_bound { result ≤ at + word_room }
 {
     match answer {
-        Answer::No(refusal) => put_no(event::number(refusal), out, at),
-        Answer::Token => put(b" ok", out, at),
-        Answer::Granted => put(b" ok", out, at),
-        Answer::Wait => put(b" wait", out, at),
-        Answer::Done => put(b" ok", out, at),
-        Answer::Woke(count) => {
+        Err(refusal) => put_no(u32::from(refusal), out, at),
+        Ok(Answer::Token) => put(b" ok", out, at),
+        Ok(Answer::Granted) => put(b" ok", out, at),
+        Ok(Answer::Wait) => put(b" wait", out, at),
+        Ok(Answer::Done) => put(b" ok", out, at),
+        Ok(Answer::Woke(count)) => {
             let some = (count as usize).min(woken.len());
             put_ok(&woken[..some], out, at)
         }
@@ -84,7 +84,13 @@ fn put_word(answer: Answer, woken: &[u8; JOBS], out: &mut [u8], at: usize) -> us
 }
 
 // Puts the line of a record.
-pub fn put_line(number: u64, answer: Answer, woken: &[u8; JOBS], out: &mut [u8], at: usize) -> usize
+pub fn put_line(
+    number: u64,
+    answer: Result<Answer, Refusal>,
+    woken: &[u8; JOBS],
+    out: &mut [u8],
+    at: usize,
+) -> usize
     requires { at + line_room ≤ length out.old }
     ensures wrote { Wrote out.old at (line number (word_from (said_of answer) woken.now)) result out.new }
     ensures upper_bound { result ≤ at + line_room }
