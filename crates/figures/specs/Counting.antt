@@ -40,34 +40,37 @@ told_late f number (fine n) list (fine time) = fold (late_in (record { number = 
 told_late f number _ list _ = f
 
 -- those after an event: who is overdue at its tick, just before it is taken
-abbrev pub with_late : Figures → ℕ → Table → ℕ → Figures
-with_late f number t tick =
-    told_late f number (overdue jobs t tick) (overdue_list t tick (replicate jobs 0)) (forward t.time tick)
+abbrev pub with_late : Figures → Visit → ℕ → Figures
+with_late f v tick =
+    let t = v.before.now in
+    told_late f v.number (overdue jobs t tick) (overdue_list t tick (replicate jobs 0)) (forward t.time tick)
 
--- those of a job after an event that names it was answered so
+-- those of a job after an event of this kind that names it was answered so at a time
 abbrev pub answered_to : Kind → Result Answer Refusal → ℕ → JobFigures → JobFigures
 answered_to kind (Err r) time j = refused_once j
 answered_to kind (Ok a) time j = accepted_at kind time j
 
--- the figures after an event of this kind that names a job
-abbrev pub with_named : Kind → Result Answer Refusal → ℕ → Figures → ℕ → Figures
-with_named kind answer time f job =
-    let j = figures_of f job in with_job f job (answered_to kind answer time (record j { named = more j.named }))
+-- the figures after an event with these parts, if it names a job
+abbrev pub with_named : Figures → Visit → Parts → Figures
+with_named f v p =
+    let j = figures_of f p.job in
+    if (shape_of p.kind).job
+    then with_job f p.job (answered_to p.kind v.answer v.after.now.time (record j { named = more j.named }))
+    else f
 
 -- those after a job was woken: its wait is over
-abbrev pub with_woken : Table → ℕ → Figures → ℕ → Figures
-with_woken before time f job =
-    with_job f job (waited (state_of (report before job)) (time - (row_in before job).since) (figures_of f job))
+abbrev pub woken_in : Visit → Figures → ℕ → Figures
+woken_in v f job =
+    let long = v.after.now.time - (row_in v.before.now job).since in
+    with_job f job (waited (state_of (report v.before.now job)) long (figures_of f job))
 
 -- those after an event, if one was read
-abbrev pub with_event : Option Parts → Visit → Figures → Figures
-with_event None v f = f
-with_event (Some p) v f =
-    let late = with_late f v.number v.before.now p.tick.0 in
-    let named = if (shape_of p.kind).job then with_named p.kind v.answer v.after.now.time late p.job else late in
-    fold (with_woken v.before.now v.after.now.time) named (woken_by v.answer v.list.now)
+abbrev pub with_event : Figures → Visit → Option Parts → Figures
+with_event f v None = f
+with_event f v (Some p) = fold (woken_in v) (with_named (with_late f v p.tick.0) v p) (woken_by v.answer v.list.now)
 
 -- those after a record
 abbrev pub counted : Figures → Visit → Figures
 counted f v =
-    with_event (parts_read (outcome_of v.reading)) v (seen (answered f v.number v.answer v.after.now.time) v.after.now)
+    let answer = answered f v.number v.answer v.after.now.time in
+    with_event (seen answer v.after.now) v (parts_read (outcome_of v.reading))

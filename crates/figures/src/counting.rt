@@ -1,26 +1,25 @@
 // What one record adds to the figures.
-ghost use Rattle.std.specs.Prelude.{◌≡◌, Some, fold};
-ghost use Rattle.figures.specs.Counting.{answered, counted, late_in, seen, with_event, with_late, with_named, with_woken};
+ghost use Rattle.std.specs.Prelude.{◌≡◌, fold};
+ghost use Rattle.figures.specs.Counting.{answered, counted, late_in, seen, with_late, with_named, woken_in};
 
 use crate::sheet::{Figures, Stamp};
 use arbiter::Table;
 use asking::overdue;
-use decision::Answer;
-use event::{JOBS, Kind, Parts, Refusal, Tick, forward};
+use event::{JOBS, Parts, Tick, forward};
 use follow::{Visit, listed, state_of};
 use lines::tokens_in;
 use rows::live_count;
 
 impl Figures {
     // The answer to a record: a refusal is counted; the first record is the start if it was accepted.
-    fn count_answer(&mut self, number: u64, answer: Result<Answer, Refusal>, time: u64)
-        ensures { self.new ≡ answered self.old number answer time }
+    fn count_answer(&mut self, visit: &Visit)
+        ensures { self.new ≡ answered self.old visit.now.number visit.now.answer visit.now.after.now.time }
     {
-        match answer {
+        match visit.answer {
             Err(refusal) => self.refuse(refusal),
             Ok(_) => {
-                if number == 1 {
-                    self.from = time;
+                if visit.number == 1 {
+                    self.from = visit.after.time;
                 }
             }
         }
@@ -34,7 +33,7 @@ impl Figures {
         self.raise(live as u64, tokens_in(table.tokens, live) as u64);
     }
 
-    // A job that is overdue at a record.
+    // A job that is overdue at a record. One that no table has is counted nowhere.
     fn count_late(&mut self, at: Stamp, job: u8)
         ensures { self.new ≡ late_in at self.old job }
     {
@@ -54,76 +53,70 @@ impl Figures {
     }
 
     // Who is overdue at the tick of an event, just before it is taken. A tick that is refused names nobody.
-    fn count_overdue(&mut self, number: u64, before: &Table, tick: Tick)
-        ensures { self.new ≡ with_late self.old number before.now tick.0 }
+    fn count_overdue(&mut self, visit: &Visit, tick: Tick)
+        ensures { self.new ≡ with_late self.old visit.now tick.0 }
     {
         let mut list = [0u8; JOBS];
-        let Ok(count) = overdue(before, tick, &mut list) else {
+        let Ok(count) = overdue(visit.before, tick, &mut list) else {
             return;
         };
-        let Ok(time) = forward(before.time, tick) else {
+        let Ok(time) = forward(visit.before.time, tick) else {
             return;
         };
-        self.count_all_late(Stamp { number, time }, listed(&list, count));
+        let at = Stamp {
+            number: visit.number,
+            time,
+        };
+        self.count_all_late(at, listed(&list, count));
     }
 
-    // An event that names a job; one that no table has is counted nowhere.
-    fn count_named(&mut self, kind: Kind, answer: Result<Answer, Refusal>, time: u64, job: u32)
-        ensures { self.new ≡ with_named kind answer time self.old job }
+    // An event that names a job. One that no table has is counted nowhere.
+    fn count_named(&mut self, visit: &Visit, parts: Parts)
+        ensures { self.new ≡ with_named self.old visit.now parts }
     {
-        let job = job as usize;
-        if JOBS <= job {
+        let job = parts.job as usize;
+        if !parts.kind.shape().job || JOBS <= job {
             return;
         }
         let figures = &mut self.jobs[job];
         figures.named = figures.named.saturating_add(1);
-        match answer {
+        match visit.answer {
             Err(_) => figures.refusals = figures.refusals.saturating_add(1),
-            Ok(_) => figures.accept(kind, time),
+            Ok(_) => figures.accept(parts.kind, visit.after.time),
         }
     }
 
     // The end of a wait: a woken job got its token if it waited for that before, else its set.
-    fn count_wait(&mut self, before: &Table, time: u64, job: u8)
-        ensures { self.new ≡ with_woken before.now time self.old job }
+    fn count_wait(&mut self, visit: &Visit, job: u8)
+        ensures { self.new ≡ woken_in visit.now self.old job }
     {
-        let state = state_of(before, job as u32);
+        let state = state_of(visit.before, job as u32);
         let job = job as usize;
         if job < JOBS {
-            let long = time.saturating_sub(before.rows[job].since);
-            self.jobs[job].wait(state, long);
+            let since = visit.before.rows[job].since;
+            self.jobs[job].wait(state, visit.after.time.saturating_sub(since));
         }
     }
 
     // The ends of the waits of those that were woken.
-    fn count_woken(&mut self, before: &Table, time: u64, woken: &[u8])
-        ensures { self.new ≡ fold (with_woken before.now time) self.old woken.now }
+    fn count_woken(&mut self, visit: &Visit, woken: &[u8])
+        ensures { self.new ≡ fold (woken_in visit.now) self.old woken.now }
     {
         for job in woken {
-            self.count_wait(before, time, *job);
+            self.count_wait(visit, *job);
         }
-    }
-
-    // An event.
-    fn count_event(&mut self, visit: &Visit, parts: Parts)
-        ensures { self.new ≡ with_event (Some parts) visit.now self.old }
-    {
-        let time = visit.after.time;
-        self.count_overdue(visit.number, visit.before, parts.tick);
-        if parts.kind.shape().job {
-            self.count_named(parts.kind, visit.answer, time, parts.job);
-        }
-        self.count_woken(visit.before, time, visit.woken());
     }
 
     // A record.
     pub fn count(&mut self, visit: &Visit)
         ensures { self.new ≡ counted self.old visit.now }
     {
-        self.count_answer(visit.number, visit.answer, visit.after.time);
+        self.count_answer(visit);
         self.count_most(visit.after);
         if let Some(parts) = visit.parts() {
-            self.count_event(visit, parts);
+            self.count_overdue(visit, parts.tick);
+            self.count_named(visit, parts);
+            self.count_woken(visit, visit.woken());
         }
     }
 }

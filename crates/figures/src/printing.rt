@@ -1,6 +1,5 @@
 // The figures, printed.
-ghost use Rattle.std.specs.Prelude.{◌<◌, ◌≤◌};
-ghost use Rattle.event.specs.Limits.{jobs};
+ghost use Rattle.std.specs.Prelude.{◌≤◌};
 
 use crate::sheet::{Figures, JobFigures, NUMBERS, Overdue, Stamp};
 use arbiter::Table;
@@ -98,10 +97,10 @@ fn open_end(printer: &mut Printer<impl Print + Eprint>, state: State, waited: u6
 }
 
 // What a job's line says before what is still open.
-fn job_figures(printer: &mut Printer<impl Print + Eprint>, job: u64, figures: JobFigures)
+fn job_figures(printer: &mut Printer<impl Print + Eprint>, job: u32, figures: JobFigures)
     ensures { printer.old.failures ≤ printer.new.failures }
 {
-    printer.word(b"job ", job);
+    printer.word(b"job ", job as u64);
     printer.word(b": openings ", figures.openings);
     printer.word(b", completions ", figures.completions);
     printer.word(b", refusals ", figures.refusals);
@@ -111,26 +110,22 @@ fn job_figures(printer: &mut Printer<impl Print + Eprint>, job: u64, figures: Jo
     overdue(printer, figures.overdue);
 }
 
-// The line of a job. A wait that is still open counts as far as it went.
+// The line of a job, with the figures so far. A wait that is still open counts as far as it went.
 fn job_line(
     printer: &mut Printer<impl Print + Eprint>,
+    job: u32,
     mut figures: JobFigures,
-    job: usize,
     table: &Table,
+    since: u64,
 )
-    requires { job < jobs }
     ensures { printer.old.failures ≤ printer.new.failures }
 {
-    let state = state_of(table, job as u32);
-    let waited = table.time.saturating_sub(table.rows[job].since);
+    let state = state_of(table, job);
+    let waited = table.time.saturating_sub(since);
+    let lived = table.time.saturating_sub(figures.opened);
     figures.wait(state, waited);
-    job_figures(printer, job as u64, figures);
-    open_end(
-        printer,
-        state,
-        waited,
-        table.time.saturating_sub(figures.opened),
-    );
+    job_figures(printer, job, figures);
+    open_end(printer, state, waited, lived);
     printer.text(b"\n");
 }
 
@@ -140,9 +135,9 @@ impl Figures {
         ensures { printer.old.failures ≤ printer.new.failures }
     {
         head(printer, self, records, table.time);
-        for (job, figures) in self.jobs.iter().enumerate() {
+        for (job, (figures, row)) in (0u32..).zip(self.jobs.iter().zip(&table.rows)) {
             if 0 < figures.named {
-                job_line(printer, *figures, job, table);
+                job_line(printer, job, *figures, table, row.since);
             }
         }
     }

@@ -44,14 +44,14 @@ pub struct JobFigures {
 // The figures of a recording.
 #[derive(Clone, Copy)]
 pub struct Figures {
-    pub jobs: [JobFigures; JOBS],
+    pub(crate) jobs: [JobFigures; JOBS],
     // refused records, and those of each number
-    pub refused: u64,
-    pub by_number: [u64; NUMBERS],
+    pub(crate) refused: u64,
+    pub(crate) by_number: [u64; NUMBERS],
     // the time of the start
-    pub from: u64,
-    pub most_live: u64,
-    pub most_tokens: u64,
+    pub(crate) from: u64,
+    pub(crate) most_live: u64,
+    pub(crate) most_tokens: u64,
 }
 
 impl JobFigures {
