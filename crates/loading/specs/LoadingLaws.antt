@@ -15,17 +15,16 @@ taking_start fs = record { long = length-replicate jobs idle; places = refl; fit
 pub taking_next :
     {fs left : List FileRow} {rows : List Row} {ok e l : Bool} {n : ℕ} (f : FileRow) (x : Row) → Taking fs (f ∷ left) rows ok n →
     ltb 0 f.zero ≡ false → x ≡ row_said f → e ≡ ltb n x.turn.0 → l ≡ live (row_of rows f.job) →
-    Taking fs left (set rows f.job x) (ok && e && not l) x.turn.0
+    Taking fs left (set rows f.job x) (ok && (e && not l)) x.turn.0
 unfolding fits placed any
 taking_next {fs} {left} {rows} {ok} {e} {l} {n} f x now clear is is-above is_live =
-    subst (λ (r : Row). Taking fs left (set rows f.job r) (ok && e && not l) r.turn.0) (sym is)
+    subst (λ (r : Row). Taking fs left (set rows f.job r) (ok && (e && not l)) r.turn.0) (sym is)
     (record {
       long = length-set rows f.job (row_said f) ∙ now.long;
       places = now.places;
       fit =
           rw (is-above, is, is_live)
-          (rw (and_assoc ok (ltb n f.turn) (free rows f), and_assoc ok (ltb n f.turn && free rows f) (fits f.turn (set rows f.job (row_said f)) left))
-          now.fit);
+          (rw (and_assoc ok (ltb n f.turn && free rows f) (fits f.turn (set rows f.job (row_said f)) left)) now.fit);
       strays = rw clear at now.strays;
     })
 

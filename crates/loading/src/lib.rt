@@ -75,7 +75,7 @@ fn take_rows(file: &[u8], count: usize) -> Result<[Row; JOBS], Refusal>
         }
         let row = row_said(said);
         let job = said.job as usize;
-        fits = fits & earlier(passed, row.turn) & !live(rows[job]);
+        fits &= earlier(passed, row.turn) & !live(rows[job]);
         passed = row.turn;
         rows[job] = row;
     }
