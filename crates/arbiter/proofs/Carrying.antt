@@ -1,14 +1,14 @@
 -- An event carried out by what it sees of a table is what the event means.
 use Rattle.std.specs.Prelude.{◌&&◌, ◌++◌, ◌<◌, ◌≡◌, ◌≤◌}
-use Rattle.arbiter.specs.Prelude.{Acts, Ask, Beat, Bool, Case, Change, Complete, Event, GiveUp, List, Next, NoToken, NotLive, Onward, Open, Refusal, Release, Seen, Settles, StillWaiting, Swept, Table, [], ◌∙◌, about, acceptance_tells, actor, ahead, all, among, and_left, and_right, ap, arith, calling, case, clear, clear_named, cond, described, ended, every_kind, false, fine, implied, implies, job_of, jobs, kind_of, le-ltb, le-zero, leb-false, length, live, lt-ltb, ltb-false, ltb-true, not-false, of_role, outcome, outcome_is, outcome_past, over, refl, refusals_of, refused, set, set_of, settled_rows, sound_steady, stayed, sym, this, tick_of, true, true≢false, woken, ℕ}
-use Rattle.arbiter.proofs.Answering.{accepted_answers}
-use Rattle.arbiter.specs.Answers.{said_of, says_woke}
+use Rattle.arbiter.specs.Prelude.{Answer, Err, Ok, Result, outcome_of, Acts, Ask, Beat, Bool, Case, Change, Complete, Event, GiveUp, List, Next, NoToken, NotLive, Onward, Open, Refusal, Release, Seen, Settles, StillWaiting, Swept, Table, [], ◌∙◌, about, acceptance_tells, actor, ahead, all, among, and_left, and_right, ap, arith, calling, case, clear, clear_named, cond, described, ended, every_kind, false, fine, implied, implies, job_of, jobs, kind_of, le-ltb, le-zero, leb-false, length, live, lt-ltb, ltb-false, ltb-true, not-false, of_role, outcome, outcome_is, outcome_past, over, refl, refusals_of, refused, set, set_of, settled_rows, sound_steady, stayed, sym, this, tick_of, true, true≢false, woken, ℕ}
+use Rattle.arbiter.proofs.Answering.{accepted_answers, refused_answers, refused_answers_into}
+use Rattle.arbiter.specs.Answers.{said_by, said_of, says_woke}
 use Rattle.arbiter.specs.Bounded.{bounds_of}
-use Rattle.arbiter.specs.ChangeLaws.{change_accepted, change_said, change_on, forbids, has_room, loud_accepted, loud_said, sound_by_lem, survey_tells}
+use Rattle.arbiter.specs.ChangeLaws.{Decides, change_accepted, change_said, change_on, forbids, has_room, loud_accepted, loud_said, sound_by_lem, survey_tells}
 use Rattle.decision.specs.Changes.{change_for, refusal_cases}
 use Rattle.arbiter.specs.Effects.{Does}
 use Rattle.arbiter.specs.Meaning.{accepted, moved, said, wakes}
-use Rattle.arbiter.specs.Promises.{Answered}
+use Rattle.arbiter.specs.Promises.{Answered, AnsweredInto}
 use Rattle.arbiter.specs.Refusals.{applies, cases, list_cases, seen_in}
 use Rattle.arbiter.specs.Sound.{row_in, sound}
 use Rattle.decision.specs.declared.answer.Answer.TheVariants as Answers
@@ -42,19 +42,28 @@ module _ (t : Table) (e : Event) (s : Seen) (forbidden room : Bool) where
 -- where an event that wakes nobody is accepted, what changes is what it means
 pub changes_answer :
     (n : ℕ) (t : Table) (e : Event) → (about e).wakes ≡ false → (c : Change) (r : Next) →
-    fine c ≡ outcome (refusal_cases (seen_in t (job_of e)) e) (change_on t e) → r.answer ≡ c.answer →
+    fine c ≡ outcome (refusal_cases (seen_in t (job_of e)) e) (change_on t e) → r.answer ≡ Ok c.answer →
     r.table ≡ moved t c.time c.last.0 (set t.rows (job_of e) c.row) → Answered n t e r
 changes_answer n t e quiet c r is says hands =
     let c-is : c ≡ change_on t e =
     sym (acceptance_tells {B = ℕ} (refusal_cases (seen_in t (job_of e)) e) (change_on t e) c (sym is)).1 in
     accepted_answers n t e (change_on t e) r c (is ∙ ap (λ (cs : List Case). outcome cs (change_on t e)) (sym (quiet_cases n t e quiet)))
     (record {
-      says = ap said_of (says ∙ ap (λ (x : Change). x.answer) c-is) ∙ change_said t e quiet;
+      says = ap said_of says ∙ ap (λ (x : Change). fine (said_by x.answer)) c-is ∙ change_said t e quiet;
       hands =
           hands
           ∙ ap (λ (x : Change). moved t x.time x.last.0 (set t.rows (job_of e) x.row)) c-is
           ∙ change_accepted t e quiet;
     })
+
+-- where it is refused, the table stays
+pub quiet_refused :
+    (t : Table) (e : Event) → (about e).wakes ≡ false → {d : Result Change Refusal} {x : Refusal} {a : Result Answer Refusal} →
+    Decides t e d → d ≡ Err x → a ≡ Err x → Answered jobs t e (record { answer = a; table = t })
+quiet_refused t e quiet {d} {x} {a} decides is says =
+    refused_answers jobs t e (change_on t e) _ x
+    (sym (ap outcome_of is) ∙ decides ∙ ap (λ (cs : List Case). outcome cs (change_on t e)) (sym (quiet_cases jobs t e quiet)))
+    (record { says = ap said_of says; hands = refl })
 
 -- an accepted event names a job that has a row
 pub has_row : {A : Type 0} (s : Seen) (e : Event) (a x : A) → fine x ≡ outcome (refusal_cases s e) a → job_of e < jobs
@@ -82,6 +91,14 @@ module _ (t : Table) (e : Event) (loud : (about e).wakes ≡ true) where
       let rest = refusal_cases (seen_in t (job_of e)) e in
       let told : refused 2 ≡ outcome (list_cases n ++ rest) a = outcome_is a (this (lt-ltb n jobs short)) in
       told ∙ ap (λ (b : Bool). outcome (cond b (list_cases n) [] ++ rest) a) (sym loud)
+
+  -- where it is refused otherwise, table and list stay
+  pub loud_refused :
+      {list : List ℕ} → jobs ≤ length list → {d : Result Change Refusal} {x : Refusal} {a : Result Answer Refusal} → Decides t e d →
+      d ≡ Err x → a ≡ Err x → AnsweredInto t e list (record { answer = a; table = t }) list
+  loud_refused {list} long {d} {x} {a} decides is says =
+      refused_answers_into t e (change_on t e) list _ x (sym (ap outcome_of is) ∙ decides ∙ sym (long_cases _ t e (change_on t e) long))
+      (record { says = ap said_of says; hands = refl })
 
   -- whoever may wake others is live, has a token and asks for nothing
   pub may_act :
@@ -122,7 +139,7 @@ module _ (t : Table) (e : Event) (loud : (about e).wakes ≡ true) where
   -- what is left of rows and list is what the event means
   pub settling_does :
       (c : Change) (before after : List ℕ) (swept : Swept) (r : Next) → change_on t e ≡ c →
-      Settles t.tokens t.rows (job_of e) c.row before swept after → r.answer ≡ Answers.Woke swept.count →
+      Settles t.tokens t.rows (job_of e) c.row before swept after → r.answer ≡ Ok (Answers.Woke swept.count) →
       r.table ≡ moved t c.time c.last.0 swept.rows →
       Does (said t e) (accepted t e) r × (after ≡ over (wakes t e) before)
   settling_does c before after swept r is done says hands =

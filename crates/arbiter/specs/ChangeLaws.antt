@@ -1,13 +1,12 @@
 -- What an event comes to on a table, by what it sees of it.
 use Rattle.std.specs.Prelude.{◌+◌, ◌∷◌, ◌≡◌, ◌&&◌, ◌<◌, ◌^◌, ◌≤◌}
-use Rattle.arbiter.specs.Prelude.{Bool, Table, Ask, Beat, Change, Complete, Event, GiveUp, List, Open, Release, Row, Seen, [], ◌∙◌, about, ap, blocked, cond, false, fine, get_or, idle, job_of, not, outcome, outcome_is, refl, refused, seen_by, set, set_of, settled_rows, sound_by, suc, sym, this, token, true, true≢false, zero, ℕ, ahead, all, all_each, and_left, and_right, arith, count_and_true, count_every, count_line, count_mono, distinct, earlier, highest, holds, le_antisymm, leb, leb-true, length, line, live, ltb-true, turn_earlier, Survey, Surveyed}
-use Rattle.decision.specs.Changes.{ask_answer, change_for, decided, open_answer, refusal_cases}
+use Rattle.arbiter.specs.Prelude.{Bool, Refusal, Result, Table, outcome_of, Ask, Beat, Change, Complete, Event, GiveUp, List, Open, Release, Row, Seen, [], ◌∙◌, about, ap, blocked, cond, false, fine, get_or, idle, job_of, not, outcome, outcome_is, refl, refused, seen_by, set, set_of, settled_rows, sound_by, suc, sym, this, token, true, true≢false, zero, ℕ, ahead, all, all_each, and_left, and_right, arith, count_and_true, count_every, count_line, count_mono, distinct, earlier, highest, holds, le_antisymm, leb, leb-true, length, line, live, ltb-true, turn_earlier, Survey, Surveyed}
+use Rattle.decision.specs.Changes.{ask_answer, change_for, open_answer, refusal_cases}
 use Rattle.arbiter.specs.Bounded.{bounds_of}
-use Rattle.decision.specs.declared.deciding.Decision.{Decision}
 use Rattle.arbiter.specs.Meaning.{accepted, moved, said, wakes}
 use Rattle.arbiter.specs.Refusals.{seen_in}
 use Rattle.arbiter.specs.Sound.{counters, ranges, row_in, sound, sound_row}
-use Rattle.arbiter.specs.Answers.{said_of, says_granted, says_token, says_wait, says_woke}
+use Rattle.arbiter.specs.Answers.{said_by, says_granted, says_token, says_wait, says_woke}
 
 -- ---- What a survey of a table tells
 
@@ -62,11 +61,11 @@ abbrev pub change_on : Table → Event → Change
 change_on t e = change_for (seen_in t (job_of e)) (forbids t e) (has_room t) e
 
 -- d is what an event comes to on a table, apart from a lent list that is too short
-abbrev pub Decides : Table → Event → Decision → Type 0
-Decides t e d = decided d ≡ outcome (refusal_cases (seen_in t (job_of e)) e) (change_on t e)
+abbrev pub Decides : Table → Event → Result Change Refusal → Type 0
+Decides t e d = outcome_of d ≡ outcome (refusal_cases (seen_in t (job_of e)) e) (change_on t e)
 
 -- d is what an event comes to on every table with this many tokens of which v is the survey for it
-abbrev pub Finds : Survey → ℕ → Event → Decision → Type 0
+abbrev pub Finds : Survey → ℕ → Event → Result Change Refusal → Type 0
 Finds v T e d = (t : Table) → T ≡ t.tokens → Surveyed (bounds_of t) t.rows (job_of e) v → Decides t e d
 
 -- an event that wakes nobody changes one row
@@ -81,16 +80,16 @@ change_accepted t (Complete j tick) quiet = absurd (true≢false quiet)
 change_accepted t (GiveUp j tick s) quiet = absurd (true≢false quiet)
 
 -- and its answer is what it means
-pub change_said : (t : Table) (e : Event) → (about e).wakes ≡ false → said_of (change_on t e).answer ≡ fine (said t e)
+pub change_said : (t : Table) (e : Event) → (about e).wakes ≡ false → fine (said_by (change_on t e).answer) ≡ fine (said t e)
 change_said t (Beat tick) quiet = refl
 change_said t (Open j tick s) quiet = go (has_room t)
   where
-    go : (b : Bool) → said_of (open_answer b) ≡ fine (cond b says_token says_wait)
+    go : (b : Bool) → fine (said_by (open_answer b)) ≡ fine (cond b says_token says_wait)
     go true = refl
     go false = refl
 change_said t (Ask j tick s) quiet = go (forbids t (Ask j tick s))
   where
-    go : (b : Bool) → said_of (ask_answer b) ≡ fine (cond b says_wait says_granted)
+    go : (b : Bool) → fine (said_by (ask_answer b)) ≡ fine (cond b says_wait says_granted)
     go true = refl
     go false = refl
 change_said t (Release j tick s) quiet = refl

@@ -1,5 +1,5 @@
 -- The names from outside that this crate's definitions and proofs use, passed on by one module.
-pub use Rattle.std.specs.Prelude.{◌+◌, ◌<◌, ◌^◌, ◌≤◌, suc, zero, ℕ, Bool, ◌&&◌, ◌||◌, cond, false, not, true, List, [], ◌++◌, ◌∷◌, map, ◌↔◌, ◌⊎◌, ◌≡◌, refl, eqb, leb, ltb, get_or, length, replicate, set}
+pub use Rattle.std.specs.Prelude.{◌+◌, ◌<◌, ◌^◌, ◌≤◌, suc, zero, ℕ, Bool, Err, Ok, Result, ◌&&◌, ◌||◌, cond, false, not, true, List, [], ◌++◌, ◌∷◌, map, ◌↔◌, ◌⊎◌, ◌≡◌, refl, eqb, leb, ltb, get_or, length, replicate, set}
 pub use Rattle.std.proofs.Math.Bool.{or-true}
 pub use Rattle.std.proofs.Common.{true≢false, inl, inr, ⊎_elim, ◌∙◌, ap, subst, sym, le_antisymm, arith, rules, eqb-true, le-leb, le-ltb, leb-false, leb-true, lt-ltb, ltb-false, ltb-true}
 pub use Rattle.std.proofs.lemmas.Bool.{eqb-false, not-false}
@@ -26,7 +26,7 @@ pub use Rattle.event.specs.EventLaws.{every_kind}
 pub use Rattle.event.specs.Events.{about, actor, described, job_of, kind_of, of_role, refusals_of, set_of, tick_of}
 pub use Rattle.event.specs.Limits.{highest, jobs}
 pub use Rattle.event.proofs.RefusalLaws.{clear_named, refusal_of_number_of}
-pub use Rattle.event.specs.Refusals.{among, cases_by, documented, number_of}
+pub use Rattle.event.specs.Refusals.{among, cases_by, documented, number_of, outcome_of}
 pub use Rattle.event.specs.declared.clock.Tick.{Tick}
 pub use Rattle.event.specs.declared.events.Event.{Event}
 pub use Rattle.event.specs.declared.events.Event.TheVariants.{Ask, Beat, Complete, GiveUp, Open, Release}
@@ -42,10 +42,8 @@ pub use Rattle.rows.specs.Propositions.{InTheWay}
 pub use Rattle.rows.specs.declared.row.Row.{Row}
 pub use Rattle.request.specs.declared.seen.Seen.{Seen}
 pub use Rattle.decision.specs.declared.answer.Answer.{Answer}
-pub use Rattle.arbiter.specs.declared.table.Late.{Late}
-pub use Rattle.arbiter.specs.declared.table.Late.TheVariants.{Count, No}
 pub use Rattle.arbiter.specs.declared.table.Next.{Next}
-pub use Rattle.arbiter.specs.declared.table.Reported.{Reported}
+pub use Rattle.arbiter.specs.declared.table.Report.{Report}
 pub use Rattle.arbiter.specs.declared.table.Table.{Table}
 pub use Rattle.decision.specs.declared.deciding.Change.{Change}
 unfoldable pub use Rattle.soundness.specs.Beside.{sound_by}
@@ -56,6 +54,5 @@ pub use Rattle.rows.specs.Turns.{turn_earlier}
 pub use Rattle.pass.specs.Pass.{Known, Surveyed, seen_by}
 pub use Rattle.pass.specs.declared.known.Survey.{Survey}
 pub use Rattle.sweep.specs.SteadyLaws.{sound_steady}
-pub use Rattle.sweep.specs.Sweeping.{Acts, Onward, Settles, ended, settled_rows, stayed}
-pub use Rattle.sweep.specs.declared.settling.Swept.{Swept}
+pub use Rattle.sweep.specs.Sweeping.{Acts, Onward, Settles, Swept, ended, settled_rows, stayed}
 pub use Rattle.std.proofs.Math.Arith.{le-zero}

@@ -2,7 +2,7 @@
 #![tactic(auto)]
 
 mod calls;
+mod lent;
 mod table;
 
-pub use calls::{bounds, found};
-pub use table::{Late, Next, Report, Reported, Table};
+pub use table::{Next, Report, Table};

@@ -1,14 +1,13 @@
 -- The names from outside that this crate's proofs use, passed on by one module.
-pub use Rattle.std.specs.Prelude.{ℕ, Bool, not, true, List, ◌≡◌, length}
+pub use Rattle.std.specs.Prelude.{ℕ, refl, Bool, Err, Ok, Result, not, true, List, ◌≡◌, length}
 pub use Rattle.std.proofs.Common.{◌∙◌, ap, subst, sym, rules, le-leb, le-ltb, lt-ltb}
 pub use Rattle.std.proofs.lemmas.Bool.{lt-leb, not-false}
 pub use Rattle.laws.specs.CaseLaws.{acceptance_tells, outcome_is, outcome_past, refusal_tells}
 pub use Rattle.laws.specs.Cases.{fine, outcome, refused}
 pub use Rattle.laws.specs.Chains.{none, past, this}
 pub use Rattle.laws.specs.Front.{over}
-pub use Rattle.event.specs.Clock.{moment_of}
 pub use Rattle.event.specs.Events.{job_of}
-pub use Rattle.event.specs.Refusals.{number_of}
+pub use Rattle.event.specs.Refusals.{number_of, outcome_of}
 pub use Rattle.event.specs.declared.events.Event.{Event}
 pub use Rattle.event.specs.declared.events.Event.TheVariants.{Beat}
 pub use Rattle.event.specs.declared.refusal.Refusal.{Refusal}
@@ -34,7 +33,6 @@ unfoldable pub use Rattle.arbiter.specs.Meaning.{overdue, overdue_list, report}
 pub use Rattle.arbiter.specs.Promises.{OverdueAnswered}
 pub use Rattle.arbiter.specs.Refusals.{overdue_cases, seen_in}
 pub use Rattle.arbiter.specs.Sound.{row_in, sound}
-pub use Rattle.arbiter.specs.declared.table.Late.TheVariants.{Count, No}
 pub use Rattle.arbiter.specs.declared.table.Report.{Report}
 pub use Rattle.arbiter.specs.declared.table.Table.{Table}
 pub use Rattle.arbiter.proofs.Surveys.{surveyed_by}

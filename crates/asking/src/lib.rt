@@ -3,58 +3,46 @@
 
 ghost use Rattle.arbiter.specs.Promises.{OverdueAnswered, ReportAnswered};
 
-use arbiter::{Late, Report, Reported, Table, bounds};
-use event::{JOBS, Moment, Refusal, Tick};
+use arbiter::{Report, Table};
+use event::{JOBS, Refusal, Tick};
 use pass::survey;
 use questions::{in_way, list_late};
 use rows::{live, waiting};
 use verdict::clock_verdict;
 
 // The report of a job's request; nothing changes.
-pub fn report(table: Table, job: u32) -> Reported
-    ensures { ReportAnswered table job result }
+pub fn report(table: &Table, job: u32) -> Result<Report, Refusal>
+    ensures { ReportAnswered table.now job result }
 {
-    let rows = table.rows;
-    let s = survey(rows, bounds(table), job);
-    let seen = s.seen;
-    if !seen.sound {
-        return Reported::No(Refusal::UnsoundTable);
+    let s = survey(&table.rows, table.bounds(), job);
+    if !s.seen.sound {
+        return Err(Refusal::UnsoundTable);
     }
     if JOBS as u32 <= job {
-        return Reported::No(Refusal::NoSuchJob);
+        return Err(Refusal::NoSuchJob);
     }
-    let row = seen.row;
+    let row = s.seen.row;
     if !live(row) {
-        return Reported::No(Refusal::NotLive);
+        return Err(Refusal::NotLive);
     }
-    let standing = s.standing;
-    let line = s.line;
-    let turn = row.turn;
-    Reported::Is(Report {
-        turn,
-        token: seen.token,
-        waiting: waiting(row, standing, table.tokens),
-        ahead: standing.ahead,
-        in_way: in_way(rows, line, turn, row.declared),
+    Ok(Report {
+        turn: row.turn,
+        token: s.seen.token,
+        waiting: waiting(row, s.standing, table.tokens),
+        ahead: s.standing.ahead,
+        in_way: in_way(&table.rows, &s.line, row.turn, row.declared),
     })
 }
 
 // The jobs whose wait is the limit or more, written to the lent list in order of turn; no clock moves.
-pub fn overdue(table: Table, tick: Tick, late: &mut [u8]) -> Late
-    ensures { OverdueAnswered table tick.0 late.old result late.new }
+pub fn overdue(table: &Table, tick: Tick, late: &mut [u8]) -> Result<u32, Refusal>
+    ensures { OverdueAnswered table.now tick.0 late.old result late.new }
 {
     if late.len() < JOBS {
-        return Late::No(Refusal::ShortList);
+        return Err(Refusal::ShortList);
     }
-    let rows = table.rows;
-    let s = survey(rows, bounds(table), 0);
-    let seen = s.seen;
-    let verdict = clock_verdict(seen, tick);
-    match verdict {
-        Moment::No(refusal) => Late::No(refusal),
-        Moment::At(time) => {
-            let line = s.line;
-            Late::Count(list_late(rows, line, bounds(table), time, late))
-        }
-    }
+    let bounds = table.bounds();
+    let s = survey(&table.rows, bounds, 0);
+    let time = clock_verdict(s.seen, tick)?;
+    Ok(list_late(&table.rows, &s.line, bounds, time, late))
 }

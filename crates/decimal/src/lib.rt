@@ -10,6 +10,7 @@ pub fn len(n: u64) -> usize
     ensures { result ≡ length (text n) }
 {
     let mut rest = n;
+    // a `while`: no `for` is plainer, since how many turns it takes is the answer
     let mut count = 1;
     while 10 <= rest {
         rest /= 10;
@@ -25,13 +26,10 @@ pub fn write(n: u64, out: &mut [u8], at: usize) -> usize
 {
     let end = at + len(n);
     let mut left = n;
-    let mut k = end - 1;
-    while 10 <= left {
-        out[k] = 48 + (left % 10) as u8;
+    for k in (at..end).rev() {
+        out[k] = b'0' + (left % 10) as u8;
         left /= 10;
-        k -= 1;
     }
-    out[k] = 48 + left as u8;
     end
 }
 
@@ -40,10 +38,6 @@ pub fn put(text: &[u8], out: &mut [u8], at: usize) -> usize
     requires { at + length text.now ≤ length out.old }
     ensures { Wrote out.old at text.now result out.new }
 {
-    let mut i = 0;
-    while i < text.len() {
-        out[at + i] = text[i];
-        i += 1;
-    }
-    at + i
+    out[at..at + text.len()].copy_from_slice(text);
+    at + text.len()
 }

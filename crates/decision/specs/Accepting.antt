@@ -1,11 +1,11 @@
 -- What a verdict tells.
 use Rattle.std.specs.Prelude.{◌≡◌}
-use Rattle.decision.specs.Prelude.{Event, Moment, Outcome, Seen, ◌∙◌, about, acceptance_tells, ap, applies_to, calling, case, cases_positive, clear, fine, job_of, moment_of, not-false, outcome, refusals_of, set_of, sym, tick_of, true, ℕ}
+use Rattle.decision.specs.Prelude.{Event, Outcome, Refusal, Result, Seen, ◌∙◌, about, acceptance_tells, ap, applies_to, calling, case, cases_positive, clear, fine, job_of, not-false, outcome, outcome_of, refusals_of, set_of, sym, tick_of, true, ℕ}
 use Rattle.decision.specs.Changes.{refusal_cases}
 
--- a verdict that turned out to be w says what v says
-pub judged : {v w : Moment} {o : Outcome ℕ} → v ≡ w → moment_of v ≡ o → moment_of w ≡ o
-judged is e = sym (ap moment_of is) ∙ e
+-- a result that turned out to be w says what v says
+pub judged : {A : Type 0} {v w : Result A Refusal} {o : Outcome A} → v ≡ w → outcome_of v ≡ o → outcome_of w ≡ o
+judged is e = sym (ap outcome_of is) ∙ e
 
 -- under the cases of an event none of which applies, the table is seen to be sound
 pub saw_sound : {A : Type 0} (s : Seen) (e : Event) (a x : A) → fine x ≡ outcome (refusal_cases s e) a → s.sound ≡ true

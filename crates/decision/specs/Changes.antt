@@ -1,18 +1,15 @@
 -- What an event comes to, from what it sees of the table, as code finds it out.
 use Rattle.std.specs.Prelude.{ℕ, ◌+◌, Bool, cond, List}
 use Rattle.event.specs.Events.{job_of, kind_of, set_of, tick_of}
-use Rattle.event.specs.Refusals.{number_of}
 use Rattle.event.specs.declared.events.Event.{Event}
 use Rattle.event.specs.declared.events.Event.TheVariants.{Beat, Open, Ask, Release, Complete, GiveUp}
-use Rattle.laws.specs.Cases.{Case, Outcome, fine, refused}
+use Rattle.laws.specs.Cases.{Case}
 use Rattle.request.specs.Change.{asking, giving_up, opening, releasing}
 use Rattle.grounds.specs.Refusals.{calling, event_cases, time_from}
 use Rattle.request.specs.declared.seen.Seen.{Seen}
 use Rattle.rows.specs.Order.{idle}
 use Rattle.rows.specs.declared.row.Row.{Row}
 use Rattle.decision.specs.declared.deciding.Change.{Change}
-use Rattle.decision.specs.declared.deciding.Decision.{Decision}
-use Rattle.decision.specs.declared.deciding.Decision.TheVariants.{No, Goes}
 use Rattle.decision.specs.declared.answer.Answer.{Answer}
 use Rattle.decision.specs.declared.answer.Answer.TheVariants as Answers
 
@@ -54,8 +51,3 @@ change_at s time forbidden token (GiveUp j tick set) = keeps s time Answers.Done
 -- what it changes at the time that its tick gives
 abbrev pub change_for : Seen → Bool → Bool → Event → Change
 change_for s forbidden token e = change_at s (time_from s.time (tick_of e)) forbidden token e
-
--- what a decision says
-abbrev pub decided : Decision → Outcome Change
-decided (No r) = refused (number_of r)
-decided (Goes c) = fine c

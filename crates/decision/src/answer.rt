@@ -1,10 +1,6 @@
-// The answer to an event.
-use event::Refusal;
-
-// The answer to an event. A later case goes at the end.
-#[derive(Clone, Copy)]
+// The answer to an accepted event. A later case goes at the end.
+#[derive(Clone, Copy, Debug, PartialEq, Eq)]
 pub enum Answer {
-    No(Refusal),
     Token,
     Granted,
     Wait,

@@ -1,13 +1,13 @@
 // What an event comes to, from what it sees of the table: a refusal, or what it changes.
 ghost use Rattle.std.specs.Prelude.{◌<◌, ◌^◌, true, ◌≡◌};
-ghost use Rattle.event.specs.Clock.{moment_of};
 ghost use Rattle.event.specs.Events.{tick_of};
+ghost use Rattle.event.specs.Refusals.{outcome_of};
 ghost use Rattle.laws.specs.Cases.{outcome};
 ghost use Rattle.grounds.specs.Refusals.{time_from};
-ghost use Rattle.decision.specs.Changes.{ask_answer, change_at, change_for, decided, keeps, open_answer, opens, refusal_cases};
+ghost use Rattle.decision.specs.Changes.{ask_answer, change_at, change_for, keeps, open_answer, opens, refusal_cases};
 
 use crate::answer::Answer;
-use event::{Event, Moment, Refusal};
+use event::{Event, Refusal};
 use request::{Seen, asked_row, given_up_row, opened_row, released_row};
 use rows::{Row, Turn, idle};
 use verdict::{
@@ -22,13 +22,6 @@ pub struct Change {
     pub time: u64,
     pub last: Turn,
     pub row: Row,
-}
-
-// A refusal, or what changes.
-#[derive(Clone, Copy)]
-pub enum Decision {
-    No(Refusal),
-    Goes(Change),
 }
 
 // The answer to an opening.
@@ -50,8 +43,8 @@ fn ask_answer(forbidden: bool) -> Answer
 }
 
 // Why an event is refused, apart from a lent list that is too short; else the next true time.
-fn verdict(event: Event, s: Seen) -> Moment
-    ensures { moment_of result ≡ outcome (refusal_cases s event) (time_from s.time (tick_of event)) }
+fn verdict(event: Event, s: Seen) -> Result<u64, Refusal>
+    ensures { outcome_of result ≡ outcome (refusal_cases s event) (time_from s.time (tick_of event)) }
 {
     match event {
         Event::Beat(tick) => clock_verdict(s, tick),
@@ -68,13 +61,11 @@ fn opening(s: Seen, time: u64, token: bool, declared: u64) -> Change
     requires { s.last.0 < 2 ^ 63 }
     ensures { result ≡ opens s time token declared }
 {
-    let last = s.last;
-    let row = opened_row(last, token, time, declared);
-    let turn = row.turn;
+    let row = opened_row(s.last, token, time, declared);
     Change {
         answer: open_answer(token),
         time,
-        last: turn,
+        last: row.turn,
         row,
     }
 }
@@ -83,11 +74,10 @@ fn opening(s: Seen, time: u64, token: bool, declared: u64) -> Change
 fn keeping(s: Seen, time: u64, answer: Answer, row: Row) -> Change
     ensures { result ≡ keeps s time answer row }
 {
-    let last = s.last;
     Change {
         answer,
         time,
-        last,
+        last: s.last,
         row,
     }
 }
@@ -97,30 +87,24 @@ fn change_at(event: Event, s: Seen, time: u64, forbidden: bool, token: bool) -> 
     requires { s.last.0 < 2 ^ 63 }
     ensures { result ≡ change_at s time forbidden token event }
 {
-    let row = s.row;
     match event {
-        Event::Beat(_) => keeping(s, time, Answer::Done, row),
-        Event::Open { job, tick, set } => opening(s, time, token, set),
-        Event::Ask { job, tick, set } => keeping(
-            s,
-            time,
-            ask_answer(forbidden),
-            asked_row(row, forbidden, time, set),
-        ),
-        Event::Release { job, tick, set } => keeping(s, time, Answer::Done, released_row(row, set)),
-        Event::Complete { job, tick } => keeping(s, time, Answer::Done, idle()),
-        Event::GiveUp { job, tick, set } => keeping(s, time, Answer::Done, given_up_row(row, set)),
+        Event::Beat(_) => keeping(s, time, Answer::Done, s.row),
+        Event::Open { set, .. } => opening(s, time, token, set),
+        Event::Ask { set, .. } => {
+            let row = asked_row(s.row, forbidden, time, set);
+            keeping(s, time, ask_answer(forbidden), row)
+        }
+        Event::Release { set, .. } => keeping(s, time, Answer::Done, released_row(s.row, set)),
+        Event::Complete { .. } => keeping(s, time, Answer::Done, idle()),
+        Event::GiveUp { set, .. } => keeping(s, time, Answer::Done, given_up_row(s.row, set)),
     }
 }
 
 // What an event comes to. Whether Q3 forbids its set, and whether a request opened now would have a token, is handed in.
-pub fn decide(event: Event, s: Seen, forbidden: bool, token: bool) -> Decision
+pub fn decide(event: Event, s: Seen, forbidden: bool, token: bool) -> Result<Change, Refusal>
     requires { s.sound ≡ true → s.last.0 < 2 ^ 63 }
-    ensures { decided result ≡ outcome (refusal_cases s event) (change_for s forbidden token event) }
+    ensures { outcome_of result ≡ outcome (refusal_cases s event) (change_for s forbidden token event) }
 {
-    let v = verdict(event, s);
-    match v {
-        Moment::No(refusal) => Decision::No(refusal),
-        Moment::At(time) => Decision::Goes(change_at(event, s, time, forbidden, token)),
-    }
+    let time = verdict(event, s)?;
+    Ok(change_at(event, s, time, forbidden, token))
 }

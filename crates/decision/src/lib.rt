@@ -5,4 +5,4 @@ mod answer;
 mod deciding;
 
 pub use answer::Answer;
-pub use deciding::{Change, Decision, decide};
+pub use deciding::{Change, decide};

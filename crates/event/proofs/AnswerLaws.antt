@@ -1,29 +1,15 @@
--- What the clock and the table of kinds promise determines their answers.
+-- What a promise says of a result determines it.
 use Rattle.std.specs.Prelude.{◌≡◌}
-use Rattle.event.specs.Prelude.{Kind, Known, Moment, Option, Outcome, ap, none, refl, some, told_apart, ℕ}
+use Rattle.event.specs.Prelude.{Err, Ok, Outcome, Refusal, Result, ap, refl, told_apart}
 use Rattle.event.specs.Answers.{answer_by}
-use Rattle.event.specs.Clock.{moment_of}
+use Rattle.event.specs.Refusals.{outcome_of}
 use Rattle.event.proofs.RefusalLaws.{refusal_of_number_of}
-use Rattle.event.specs.declared.clock.Moment.TheVariants as Moments
-use Rattle.event.specs.Events.{known_of}
-use Rattle.event.specs.declared.events.Known.TheVariants as Knowns
 
--- what the clock gives: the next true time or a refusal
-moment_said : (m : Moment) → answer_by Moments.No Moments.At (moment_of m) ≡ m
-moment_said (Moments.No r) = ap Moments.No (refusal_of_number_of r)
-moment_said (Moments.At n) = refl
+-- a result is the one that says this
+pub outcome_said : {A : Type 0} → (r : Result A Refusal) → answer_by Err Ok (outcome_of r) ≡ r
+outcome_said (Err r) = ap Err (refusal_of_number_of r)
+outcome_said (Ok a) = refl
 
-pub moment_determined : {said : Outcome ℕ} {m m' : Moment} → moment_of m ≡ said → moment_of m' ≡ said → m ≡ m'
-moment_determined = told_apart moment_of (answer_by Moments.No Moments.At) moment_said
-
--- which kind a number names, if any
-abbrev known_by : Option Kind → Known
-known_by (some k) = Knowns.Is k
-known_by none = Knowns.No
-
-known_said : (k : Known) → known_by (known_of k) ≡ k
-known_said Knowns.No = refl
-known_said (Knowns.Is k) = refl
-
-pub known_determined : {said : Option Kind} {k k' : Known} → known_of k ≡ said → known_of k' ≡ said → k ≡ k'
-known_determined = told_apart known_of known_by known_said
+pub outcome_determined :
+    {A : Type 0} {said : Outcome A} {r r' : Result A Refusal} → outcome_of r ≡ said → outcome_of r' ≡ said → r ≡ r'
+outcome_determined = told_apart outcome_of (answer_by Err Ok) outcome_said

@@ -2,9 +2,7 @@
 use Rattle.std.specs.Prelude.{ℕ, ◌+◌, ◌-◌, ◌%◌, ◌^◌, ◌≤◌, Bool, List, [], ◌∷◌, leb, ltb}
 use Rattle.laws.specs.Cases.{Case, Outcome, refused, fine, outcome}
 use Rattle.event.specs.Limits.{highest}
-use Rattle.event.specs.Refusals.{number_of, refusing}
-use Rattle.event.specs.declared.clock.Moment.{Moment}
-use Rattle.event.specs.declared.clock.Moment.TheVariants.{No, At}
+use Rattle.event.specs.Refusals.{refusing}
 use Rattle.event.specs.declared.refusal.Refusal.{Refusal}
 use Rattle.event.specs.declared.refusal.Refusal.TheVariants.{ClockGoneBack, ClockLeap, TimeSpent}
 
@@ -43,11 +41,6 @@ clock_cases time tick =
 -- the next true time, or the refusal
 unfoldable pub forward : ℕ → ℕ → Outcome ℕ
 forward time tick = outcome (clock_cases time tick) (time + difference time tick)
-
--- what a Moment says
-abbrev pub moment_of : Moment → Outcome ℕ
-moment_of (No r) = refused (number_of r)
-moment_of (At n) = fine n
 
 -- true time after an answer: a refusal moves nothing
 abbrev pub time_after : ℕ → Outcome ℕ → ℕ

@@ -1,7 +1,6 @@
 -- The names from outside that this crate's definitions and proofs use, passed on by one module.
-pub use Rattle.std.specs.Prelude.{◌%◌, ◌+◌, ◌-◌, ◌<◌, ◌^◌, ◌≤◌, suc, zero, ℕ, Bool, ◌||◌, cond, false, true, List, [], ◌∷◌, map, ◌≡◌, refl, eqb, ltb, get_or}
+pub use Rattle.std.specs.Prelude.{◌%◌, ◌+◌, ◌-◌, ◌<◌, ◌^◌, ◌≤◌, suc, zero, ℕ, Bool, ◌||◌, cond, false, true, List, [], ◌∷◌, map, ◌≡◌, refl, eqb, ltb, get_or, Option, Some, None, Result, Ok, Err}
 pub use Rattle.std.proofs.lemmas.Bool.{false≢true, lt-leb}
-pub use Rattle.std.proofs.Math.Option.{Option, none, some}
 pub use Rattle.std.proofs.Common.{◌∙◌, ap, sym, arith, rules, eqb-true, le-leb, le-ltb, lt-ltb, ltb-false, ne_eqb}
 pub use Rattle.laws.specs.BoolLaws.{and_left, and_right}
 pub use Rattle.laws.specs.CaseLaws.{acceptance_tells, clear, outcome_is}
@@ -11,12 +10,10 @@ pub use Rattle.laws.specs.Chains.{past, this}
 pub use Rattle.laws.specs.Determined.{told_apart}
 pub use Rattle.laws.specs.ListLaws.{none_above}
 unfoldable pub use Rattle.laws.specs.Lists.{all, any}
-pub use Rattle.event.specs.declared.clock.Moment.{Moment}
 pub use Rattle.event.specs.declared.clock.Tick.{Tick}
 pub use Rattle.event.specs.declared.events.Event.{Event}
 pub use Rattle.event.specs.declared.events.Event.TheVariants.{Ask, Beat, Complete, GiveUp, Open, Release}
 pub use Rattle.event.specs.declared.events.Kind.{Kind}
-pub use Rattle.event.specs.declared.events.Known.{Known}
 pub use Rattle.event.specs.declared.events.Parts.{Parts}
 pub use Rattle.event.specs.declared.refusal.Refusal.{Refusal}
 pub use Rattle.event.specs.declared.refusal.Refusal.TheVariants.{AlreadyHeld, AlreadyLive, BadStart, BitSet, ClockGoneBack, ClockLeap, EmptySet, NoSuchJob, NoSuchResource, NoToken, NotDeclared, NotHeld, NotLive, ShortList, StartOutOfPlace, StillWaiting, TimeSpent, TurnsSpent, UnknownKind, UnknownVersion, UnsoundTable, WrongLength, WrongSize}

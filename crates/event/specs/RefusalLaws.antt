@@ -1,6 +1,7 @@
 -- The refusal that a number names.
 use Rattle.std.specs.Prelude.{◌-◌, ◌∷◌}
-use Rattle.event.specs.Prelude.{List, [], get_or, ℕ, AlreadyHeld, AlreadyLive, BadStart, BitSet, ClockGoneBack, ClockLeap, EmptySet, NoSuchJob, NoSuchResource, NoToken, NotDeclared, NotHeld, NotLive, Refusal, ShortList, StartOutOfPlace, StillWaiting, TimeSpent, TurnsSpent, UnknownKind, UnknownVersion, UnsoundTable, WrongLength, WrongSize}
+use Rattle.event.specs.Refusals.{number_of}
+use Rattle.event.specs.Prelude.{List, [], None, Option, Some, cond, eqb, get_or, ℕ, AlreadyHeld, AlreadyLive, BadStart, BitSet, ClockGoneBack, ClockLeap, EmptySet, NoSuchJob, NoSuchResource, NoToken, NotDeclared, NotHeld, NotLive, Refusal, ShortList, StartOutOfPlace, StillWaiting, TimeSpent, TurnsSpent, UnknownKind, UnknownVersion, UnsoundTable, WrongLength, WrongSize}
 
 -- the refusals in the order of their numbers
 unfoldable pub refusals : List Refusal
@@ -9,3 +10,12 @@ refusals = BadStart ∷ ShortList ∷ UnsoundTable ∷ NoSuchJob ∷ ClockGoneBa
 -- the refusal so numbered
 unfoldable pub refusal_of : ℕ → Refusal
 refusal_of n = get_or refusals (n - 1) BadStart
+
+-- the first of these refusals that has the number
+abbrev pub refusal_among : List Refusal → ℕ → Option Refusal
+refusal_among [] n = None
+refusal_among (r ∷ rs) n = cond (eqb n (number_of r)) (Some r) (refusal_among rs n)
+
+-- the refusal of that number, if one has it
+abbrev pub refusal_numbered : ℕ → Option Refusal
+refusal_numbered = refusal_among refusals

@@ -1,6 +1,6 @@
 -- The numbers that documents 01 and 02 give the refusals, and cases by the refusals' names.
-use Rattle.std.specs.Prelude.{ℕ, Bool, false, ◌||◌, List, [], ◌∷◌, map, eqb}
-use Rattle.laws.specs.Cases.{Case, when}
+use Rattle.std.specs.Prelude.{ℕ, Bool, false, ◌||◌, List, [], ◌∷◌, map, eqb, Result, Ok, Err}
+use Rattle.laws.specs.Cases.{Case, Outcome, fine, refused, when}
 use Rattle.event.specs.declared.refusal.Refusal.{Refusal}
 use Rattle.event.specs.declared.refusal.Refusal.TheVariants.{BadStart, ShortList, UnsoundTable, NoSuchJob, ClockGoneBack, TimeSpent, AlreadyLive, NotLive, NoToken, StillWaiting, EmptySet, NoSuchResource, NotDeclared, AlreadyHeld, NotHeld, TurnsSpent, WrongLength, UnknownKind, BitSet, StartOutOfPlace, WrongSize, UnknownVersion, ClockLeap}
 
@@ -29,6 +29,11 @@ number_of StartOutOfPlace = 20
 number_of WrongSize = 21
 number_of UnknownVersion = 22
 number_of ClockLeap = 23
+
+-- what a result says: its value, or the number of its refusal
+abbrev pub outcome_of : {A : Type 0} → Result A Refusal → Outcome A
+outcome_of (Ok a) = fine a
+outcome_of (Err r) = refused (number_of r)
 
 -- the order in which the refusals of a start, an event, a question, and a record that is read or written are tested: by number,
 -- but 23 after 5; what a replay and service files test besides has its own order

@@ -1,6 +1,7 @@
 // Ticks, and the true time that they tell.
 ghost use Rattle.std.specs.Prelude.{◌≡◌};
-ghost use Rattle.event.specs.Clock.{forward, moment_of};
+ghost use Rattle.event.specs.Clock.{forward};
+ghost use Rattle.event.specs.Refusals.{outcome_of};
 
 use crate::limits::HIGHEST;
 use crate::refusal::Refusal;
@@ -16,31 +17,24 @@ const HOUR: u64 = 3_600_000;
 
 // The drive's millisecond counter. A type of its own, so that no turn can stand in its place.
 #[repr(C)]
-#[derive(Clone, Copy)]
+#[derive(Clone, Copy, Debug, PartialEq, Eq)]
 pub struct Tick(pub u32);
 
-// What a tick gives: why it is refused, or the next true time.
-#[derive(Clone, Copy)]
-pub enum Moment {
-    No(Refusal),
-    At(u64),
-}
-
-// The true time that `tick` gives after true time `time`.
-pub fn forward(time: u64, tick: Tick) -> Moment
-    ensures { moment_of result ≡ forward time tick.0 }
+// The true time that `tick` gives after true time `time`, or why it is refused.
+pub fn forward(time: u64, tick: Tick) -> Result<u64, Refusal>
+    ensures { outcome_of result ≡ forward time tick.0 }
 {
     let low = time % WRAP;
     let difference = (tick.0 as u64 + WRAP - low) % WRAP;
     let room = HIGHEST - difference;
     if GONE_BACK <= difference {
-        return Moment::No(Refusal::ClockGoneBack);
+        return Err(Refusal::ClockGoneBack);
     }
     if HOUR < difference {
-        return Moment::No(Refusal::ClockLeap);
+        return Err(Refusal::ClockLeap);
     }
     if room < time {
-        return Moment::No(Refusal::TimeSpent);
+        return Err(Refusal::TimeSpent);
     }
-    Moment::At(time + difference)
+    Ok(time + difference)
 }

@@ -6,9 +6,7 @@ mod events;
 mod limits;
 mod refusal;
 
-pub use clock::{Moment, Tick, forward};
-pub use events::{
-    Entry, Event, Kind, Known, Parts, Shape, Start, event_of, kind_numbered, parts_of, shape_of,
-};
+pub use clock::{Tick, forward};
+pub use events::{Entry, Event, Kind, Parts, Shape, Start};
 pub use limits::{HIGHEST, JOBS, MOST};
-pub use refusal::{Refusal, number};
+pub use refusal::Refusal;

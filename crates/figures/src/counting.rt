@@ -25,8 +25,7 @@ fn count_refusal(sheet: &mut [u64], refusal: Refusal)
 
 // The most live requests and the most tokens in use.
 fn count_most(sheet: &mut [u64], table: Table) {
-    let rows = table.rows;
-    let live = live_count(rows);
+    let live = live_count(&table.rows);
     raise(sheet, place(sheet::ALL, sheet::MOST_LIVE), live as u64);
     raise(
         sheet,

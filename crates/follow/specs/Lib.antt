@@ -3,3 +3,4 @@ pub mod Follow
 pub mod FollowLaws
 pub mod Prelude
 pub mod Promises
+pub mod Visits

@@ -106,7 +106,7 @@ pub fn put_end(table: Table, out: &mut [u8], at: usize) -> usize
     requires { at + line_room ≤ length out.old }
     ensures { Wrote out.old at (end_line table) result out.new }
 {
-    let live = live_count(table.rows);
+    let live = live_count(&table.rows);
     let tokens = tokens_in(table.tokens, live);
     let next = put_number(b"end ", live as u64, out, at);
     let end = put_number(b" ", tokens as u64, out, next);

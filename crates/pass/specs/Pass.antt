@@ -1,17 +1,13 @@
 -- What the pass promises.
 use Rattle.std.specs.Prelude.{ℕ, true, List, ◌≡◌}
-use Rattle.laws.specs.Lists.{all}
 use Rattle.line.specs.LineInCode.{Lines}
-use Rattle.line.specs.declared.Line.{Line}
 use Rattle.request.specs.declared.seen.Seen.{Seen}
 use Rattle.rows.specs.Line.{row_of}
 use Rattle.rows.specs.Order.{token}
 use Rattle.rows.specs.Stand.{Stands}
 use Rattle.rows.specs.declared.row.Row.{Row}
-use Rattle.soundness.specs.Beside.{sound_by, zeroed}
+use Rattle.soundness.specs.Beside.{sound_by}
 use Rattle.soundness.specs.declared.Bounds.{Bounds}
-use Rattle.walk.specs.Walk.{Walks}
-use Rattle.walk.specs.declared.Walked.{Walked}
 use Rattle.pass.specs.declared.known.Survey.{Survey}
 
 -- what a call about job j sees of these numbers and rows
@@ -36,7 +32,3 @@ pub record Known (b : Bounds) (rows : List Row) (j : ℕ) (v : Survey) : Type 0 
 pub record Surveyed (b : Bounds) (rows : List Row) (j : ℕ) (v : Survey) : Type 0 where
   pub told : v.seen.sound ≡ sound_by b rows
   pub known : sound_by b rows ≡ true → Known b rows j v
-
--- v is what is seen of every table with these numbers whose idle rows are zero, whose line is l, and of which w is the walk
-abbrev pub Sees : Bounds → Line → Walked → Survey → Type 0
-Sees b l w v = (rows : List Row) (j : ℕ) → all zeroed rows ≡ true → Lines rows l → Walks b rows j w → Surveyed b rows j v

@@ -37,4 +37,4 @@ pub use Rattle.soundness.specs.Conditions.{counters, idle_conditions, ranges}
 pub use Rattle.soundness.specs.declared.Bounds.{Bounds}
 pub use Rattle.walk.specs.Walk.{Found, Walks}
 unfoldable pub use Rattle.walk.specs.Walk.{walks}
-pub use Rattle.walk.specs.declared.Walked.{Walked}
+pub use Rattle.walk.specs.declared.Place.{Place}

@@ -1,6 +1,6 @@
 -- What the line and the walk tell of a table is what a call sees of it.
-use Rattle.std.specs.Prelude.{◌&&◌, ◌≡◌}
-use Rattle.pass.specs.Prelude.{Bool, Bounds, Found, Line, Lines, List, Row, Walked, Walks, ◌∙◌, all, all_each, and-false, ap, counters, denied, distinct, eqb-true, false, false≢true, holds, idle, idle_conditions, implying, le-zero, live, ltb-false, not, not-false, not-true, nth, ranges, refl, row_of, sound_by, sound_in, sym, token_by_lem, token_by, true, zeroed, ℕ}
+use Rattle.std.specs.Prelude.{◌&&◌, ◌≡◌, Option, None, Some, is_some}
+use Rattle.pass.specs.Prelude.{Bool, Bounds, Found, Line, Lines, List, Row, Place, Walks, ◌∙◌, all, all_each, and-false, ap, counters, denied, distinct, eqb-true, false, false≢true, holds, idle, idle_conditions, implying, le-zero, live, ltb-false, nth, ranges, refl, row_of, sound_by, sound_in, sym, token_by_lem, token_by, true, zeroed, ℕ}
 use Rattle.pass.specs.Pass.{Surveyed}
 use Rattle.pass.specs.PassLaws.{walk_sound, zero_sound}
 use Rattle.pass.specs.declared.known.Survey.{Survey}
@@ -27,75 +27,72 @@ module _ (b : Bounds) (rows : List Row) where
   unsurveyed : sound_by b rows ≡ false → (j : ℕ) (v : Survey) → v.seen.sound ≡ false → Surveyed b rows j v
   unsurveyed e j v told = record { told = told ∙ sym e; known = λ sound. absurd (false≢true (sym e ∙ sound)) }
 
-  -- one whose numbers are out of range is not sound, nor is one with an idle row that is not zero; t is what code tested
-  pub out_of_range : (t : Bool) → t ≡ numbers → not t ≡ true → (j : ℕ) (v : Survey) → v.seen.sound ≡ false → Surveyed b rows j v
+  -- one whose numbers are out of range is not sound, nor is one with an idle row that is not zero
+  pub out_of_range : numbers ≡ false → (j : ℕ) (v : Survey) → v.seen.sound ≡ false → Surveyed b rows j v
   unfolding sound_by
-  out_of_range t test out =
-      unsurveyed (ap (λ (n : Bool). n && distinct rows && all (sound_in b rows) rows) (sym test ∙ not-true t out))
+  out_of_range out = unsurveyed (ap (λ (n : Bool). n && distinct rows && all (sound_in b rows) rows) out)
 
-  pub not_zeroed :
-      (t : Bool) → t ≡ all zeroed rows → not t ≡ true → (j : ℕ) (v : Survey) → v.seen.sound ≡ false → Surveyed b rows j v
+  pub not_zeroed : all zeroed rows ≡ false → (j : ℕ) (v : Survey) → v.seen.sound ≡ false → Surveyed b rows j v
   unfolding sound_by
-  not_zeroed t test out =
+  not_zeroed some =
       unsurveyed
       (ap (λ (x : Bool). numbers && distinct rows && x)
       (denied (all (sound_in b rows) rows) (all zeroed rows)
-      (implying (all (sound_in b rows) rows) (all zeroed rows) (zero_sound b rows)) (sym test ∙ not-true t out))
+      (implying (all (sound_in b rows) rows) (all zeroed rows) (zero_sound b rows)) some)
       ∙ and-false (numbers && distinct rows))
 
   -- of any other a walk along the line tells the rest
-  module _ (t : Bool) (range : t ≡ numbers) (in_range : not t ≡ false) (u : Bool) (zeros : u ≡ all zeroed rows) (zero : not u ≡ false)
-      (j : ℕ) (w : Walked) (walk : Walks b rows j w) where
-    all_zeroed : all zeroed rows ≡ true
-    all_zeroed = sym zeros ∙ not-false u zero
-
+  module _ (range : numbers ≡ true) (zero : all zeroed rows ≡ true) (j : ℕ) where
     -- whether the table is sound
-    walk_tells : w.sound ≡ sound_by b rows
+    walk_tells : {w : Option Place} → Walks b rows j w → is_some w ≡ sound_by b rows
     unfolding sound_by
-    walk_tells =
+    walk_tells walk =
         walk.told
-        ∙ walk_sound b rows all_zeroed
-        ∙ sym (ap (λ (n : Bool). n && distinct rows && all (sound_in b rows) rows) (sym range ∙ not-false t in_range))
+        ∙ walk_sound b rows zero
+        ∙ sym (ap (λ (n : Bool). n && distinct rows && all (sound_in b rows) rows) range)
+
+    -- one whose walk finds nothing is not sound
+    pub strayed : Walks b rows j None → (v : Survey) → v.seen.sound ≡ false → Surveyed b rows j v
+    strayed walk v = unsurveyed (sym (walk_tells walk)) j v
 
     -- the job's row, which is the idle one where it is idle
-    walk_row : Found rows j w.standing w.row → w.row ≡ row_of rows j
+    place_row : (p : Place) → Found rows j p → p.row ≡ row_of rows j
     unfolding all
-    walk_row found = go (live (row_of rows j)) refl
+    place_row p found = go (live (row_of rows j)) refl
       where
-        go : (a : Bool) → live (row_of rows j) ≡ a → w.row ≡ row_of rows j
+        go : (a : Bool) → live (row_of rows j) ≡ a → p.row ≡ row_of rows j
         go true e = found.alive e
-        go false e = found.rests e ∙ sym (zeroed_idle (row_of rows j) (all_each zeroed idle refl rows all_zeroed j) e)
+        go false e = found.rests e ∙ sym (zeroed_idle (row_of rows j) (all_each zeroed idle refl rows zero j) e)
 
     pub surveyed :
-        (l : Line) → Lines rows l → (has : Bool) → has ≡ token_by b.tokens w.standing →
+        (l : Line) → Lines rows l → (p : Place) → Walks b rows j (Some p) → (has : Bool) → has ≡ token_by b.tokens p.standing →
         Surveyed b rows j
         (record {
           seen = record {
-            sound = w.sound;
+            sound = true;
             resources = b.resources;
             time = b.time;
             last = b.last;
-            row = w.row;
+            row = p.row;
             token = has;
           };
-          standing = w.standing;
+          standing = p.standing;
           line = l;
         })
-    surveyed l lines has told =
+    surveyed l lines p walk has told =
         record {
-          told = walk_tells;
+          told = walk_tells walk;
           known = λ sound.
-              let found = walk.found (walk_tells ∙ sound) in
               record {
                 sees = λ i. record {
-                  sound = walk_tells i;
+                  sound = walk_tells walk i;
                   resources = b.resources;
                   time = b.time;
                   last = b.last;
-                  row = walk_row found i;
-                  token = (told ∙ token_by_lem b.tokens rows w.standing (row_of rows j).turn.0 found.stands) i;
+                  row = place_row p walk.found i;
+                  token = (told ∙ token_by_lem b.tokens rows p.standing (row_of rows j).turn.0 walk.found.stands) i;
                 };
-                stands = found.stands;
+                stands = walk.found.stands;
                 lines = lines;
               };
         }

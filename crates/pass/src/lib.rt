@@ -6,4 +6,4 @@ mod known;
 mod whole;
 
 pub use known::Survey;
-pub use whole::{survey, survey_of};
+pub use whole::survey;

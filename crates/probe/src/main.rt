@@ -6,101 +6,56 @@ ghost use Rattle.std.specs.Prelude.{◌≤◌};
 
 use arbiter::Table;
 use cases::{Asked, CASE, Call, Case};
-use shown::{CUT, Room};
-use stream::Out;
-
-// What one case left: the output, and whether another may follow.
-#[derive(Clone, Copy)]
-struct After {
-    out: Out,
-    more: bool,
-}
-
-// The output as it is, and no further case.
-fn stop(out: Out) -> After
-    ensures { out.failures ≤ result.out.failures }
-{
-    After { out, more: false }
-}
-
-// Says that the input is cut, and no further case.
-fn cut(rt: &(impl Print + Eprint), out: Out, room: &mut Room) -> After
-    ensures { out.failures ≤ result.out.failures }
-{
-    stop(shown::word(rt, out, room, CUT))
-}
+use shown::CUT;
+use stream::Printer;
 
 // Makes a call and prints what it leaves. The longest list that a case can lend is one shorter than the array.
-fn make(
-    rt: &(impl Print + Eprint),
-    out: Out,
-    room: &mut Room,
-    case: Case,
-    call: Call,
-    table: Table,
-) -> Out
-    ensures { out.failures ≤ result.failures }
+fn make(printer: &mut Printer<impl Print + Eprint>, case: Case, call: Call, table: Table)
+    ensures { printer.old.failures ≤ printer.new.failures }
 {
     let mut space = [0u8; 65536];
-    let length = case.length as usize;
-    let list = &mut space[..length];
+    let list = &mut space[..case.length as usize];
     cases::lend(list);
     let left = called::left_by(case, call, table, list);
-    shown::show(rt, out, room, left, list)
+    shown::show(printer, &left, list);
 }
 
-// Makes the call of a whole case and prints its number and what it left.
-fn whole(
-    rt: &(impl Print + Eprint),
-    out: Out,
-    room: &mut Room,
-    number: u64,
-    bytes: &[u8; CASE],
-) -> After
-    ensures { out.failures ≤ result.out.failures }
+// Makes the call of a whole case and prints its number and what it left. Says whether another case may follow.
+fn whole(printer: &mut Printer<impl Print + Eprint>, number: u64, bytes: &[u8; CASE]) -> bool
+    ensures { printer.old.failures ≤ printer.new.failures }
 {
     let case = cases::case_of(bytes);
     let Asked::For(call) = cases::call_numbered(case.call) else {
-        return cut(rt, out, room);
+        shown::word(printer, CUT);
+        return false;
     };
-    let numbered = stream::number(rt, out, room, number);
-    let told = make(rt, numbered, room, case, call, cases::table_of(bytes));
-    After {
-        out: told,
-        more: told.failures == 0,
-    }
+    printer.number(number);
+    make(printer, case, call, cases::table_of(bytes));
+    !printer.failed()
 }
 
-// Reads a case and prints what it gives.
-fn turn(rt: &(impl Input + Print + Eprint), out: Out, room: &mut Room, number: u64) -> After
-    ensures { out.failures ≤ result.out.failures }
+// Reads a case and prints what it gives. Says whether another may follow.
+fn turn(rt: &(impl Input + Eprint), printer: &mut Printer<impl Print + Eprint>, number: u64) -> bool
+    ensures { printer.old.failures ≤ printer.new.failures }
 {
     let mut bytes = [0u8; CASE];
-    let piece = stream::fill(rt, &mut bytes);
-    if piece.failed || piece.count == 0 {
-        return stop(out);
+    match stream::fill(rt, &mut bytes) {
+        Ok(CASE) => whole(printer, number, &bytes),
+        Ok(0) | Err(_) => false,
+        Ok(_) => {
+            shown::word(printer, CUT);
+            false
+        }
     }
-    if piece.count < CASE {
-        return cut(rt, out, room);
-    }
-    whole(rt, out, room, number, &bytes)
 }
 
 // Goes through all of standard input. The cases are numbered from 1; no input has so many that the numbers run out.
-fn run(rt: &(impl Input + Print + Eprint), room: &mut Room) {
-    let mut out = Out { at: 0, failures: 0 };
-    let mut more = true;
-    let mut number = 0;
-    while more && number < u64::MAX {
-        number += 1;
-        let after = turn(rt, out, room, number);
-        out = after.out;
-        more = after.more;
-    }
-    stream::flush(rt, out, room);
-}
-
 fn main(rt: HostRuntime) {
-    let mut room = [0u8; 65536];
-    run(&rt, &mut room);
+    let mut printer = Printer::new(&rt);
+    for number in 1..=u64::MAX {
+        if !turn(&rt, &mut printer, number) {
+            break;
+        }
+    }
+    printer.flush();
 }

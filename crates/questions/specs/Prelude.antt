@@ -1,5 +1,5 @@
 -- The names from outside that this crate's definitions and proofs use, passed on by one module.
-pub use Rattle.std.specs.Prelude.{◌+◌, ◌-◌, ◌<◌, ◌≤◌, ℕ, Bool, ◌&&◌, ◌||◌, false, not, true, List, ◌≡◌, refl, leb, ltb, get_or, length}
+pub use Rattle.std.specs.Prelude.{◌+◌, ◌-◌, ◌<◌, ◌≤◌, ℕ, Bool, ◌&&◌, ◌||◌, false, not, true, List, ◌≡◌, refl, leb, ltb, get_or, length, take}
 pub use Rattle.std.proofs.Math.Bool.{and_assoc, and_comm}
 pub use Rattle.std.proofs.Common.{⊎_elim, ◌∙◌, ap, subst, sym, add-zero, arith, rules, le-leb, lt-ltb, ltb-false, ltb-true, drop_of_length-le}
 pub use Rattle.std.proofs.Math.Path.{fun_ext}

@@ -6,13 +6,13 @@ pub use Rattle.std.proofs.lemmas.Bool.{false≢true}
 pub use Rattle.std.proofs.Math.Path.{fun_ext}
 pub use Rattle.std.proofs.Math.Decide.{ℕ_discrete}
 pub use Rattle.std.proofs.Math.Arith.{le-zero}
-pub use Rattle.std.proofs.Math.ListN.{get_or-eq_default as List·getD-eq-default, get_or-map as List·getD-map}
+pub use Rattle.std.proofs.Math.ListN.{get_or-eq_default, get_or-map}
 pub use Rattle.std.proofs.lemmas.List.{length-map}
 pub use Rattle.laws.specs.BoolLaws.{and_left, either}
 pub use Rattle.laws.specs.Bools.{bit}
 pub use Rattle.laws.specs.Counts.{all_each, count_and_true, count_at, count_every, count_mono, count_some, each_all}
 pub use Rattle.laws.specs.Determined.{determined}
-pub use Rattle.laws.specs.ListLaws.{Passed, all_map, count_le, count_map, count_set, passed_all, passed_le, passed_more, passed_none}
+pub use Rattle.laws.specs.ListLaws.{Passed, all_map, count_le, count_map, count_set, passed_all, passed_more, passed_none}
 unfoldable pub use Rattle.laws.specs.Lists.{all, count}
 pub use Rattle.laws.specs.Reads.{Reads}
 pub use Rattle.laws.specs.ReadsLaws.{reading}

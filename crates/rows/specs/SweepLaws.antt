@@ -1,6 +1,6 @@
 -- Laws of the sweep: it changes no turn and no declared set.
 use Rattle.std.specs.Prelude.{◌≡◌}
-use Rattle.rows.specs.Prelude.{List, List·getD-map, Row, ◌∙◌, ap, either, get_or, length, length-map, map, refl, sym, union, ℕ}
+use Rattle.rows.specs.Prelude.{List, get_or-map, Row, ◌∙◌, ap, either, get_or, length, length-map, map, refl, sym, union, ℕ}
 use Rattle.rows.specs.Line.{row_of}
 use Rattle.rows.specs.Order.{ahead, blocked, distinct, idle, in_way, waiting}
 use Rattle.rows.specs.Propositions.{opening_of}
@@ -22,7 +22,7 @@ module _ (T : ℕ) (rows : List Row) where
   pub row_settled : (j : ℕ) → row_of (settled T rows) j ≡ swept_row T rows (row_of rows j)
   unfolding settled
   row_settled j =
-      ap (λ (d : Row). get_or (map (swept_row T rows) rows) j d) (sym swept_idle) ∙ List·getD-map (swept_row T rows) rows j idle
+      ap (λ (d : Row). get_or (map (swept_row T rows) rows) j d) (sym swept_idle) ∙ get_or-map (swept_row T rows) rows j idle
 
   pub turn_settled : (j : ℕ) → (row_of (settled T rows) j).turn ≡ (row_of rows j).turn
   turn_settled j = ap (λ (r : Row). r.turn) (row_settled j) ∙ ap (λ (r : Row). r.turn) (swept_keeps (row_of rows j))

@@ -1,6 +1,6 @@
 -- What the tests of single rows say, and turns that no two live rows share.
 use Rattle.std.specs.Prelude.{◌+◌, ◌<◌, ◌||◌, ◌≡◌, ◌≢◌, ◌≤◌, ◌⊎◌}
-use Rattle.rows.specs.Prelude.{Bool, List, List·getD-eq-default, Reads, Row, all_each, and-eq-true_iff, and-false, ap, arith, bit, count, count_at, count_set, count_some, each_all, eq-eqb, eqb, eqb-true, false, false≢true, get_or-set_other, get_or-set_same, inl, inr, le-ltb, le-zero, length, lt-ltb, ltb, ltb-false, ltb-true, not, reading, refl, set, sym, true, true≢false, ℕ, ℕ_discrete}
+use Rattle.rows.specs.Prelude.{Bool, List, get_or-eq_default, Reads, Row, all_each, and-eq-true_iff, and-false, ap, arith, bit, count, count_at, count_set, count_some, each_all, eq-eqb, eqb, eqb-true, false, false≢true, get_or-set_other, get_or-set_same, inl, inr, le-ltb, le-zero, length, lt-ltb, ltb, ltb-false, ltb-true, not, reading, refl, set, sym, true, true≢false, ℕ, ℕ_discrete}
 use Rattle.rows.specs.Line.{row_of}
 use Rattle.rows.specs.Order.{ahead, alone, bears, distinct, earlier, idle, live, waiting}
 use Rattle.rows.specs.Propositions.{Distinct}
@@ -8,7 +8,7 @@ use Rattle.rows.specs.Propositions.{Distinct}
 -- a live row is one of the rows
 pub live_within : (rows : List Row) (j : ℕ) → 0 < (row_of rows j).turn.0 → j < length rows
 live_within rows j h =
-    let within : ¬ (length rows ≤ j) = λ out. omega (arith, ap (λ (r : Row). r.turn.0) (List·getD-eq-default rows idle out)) in
+    let within : ¬ (length rows ≤ j) = λ out. omega (arith, ap (λ (r : Row). r.turn.0) (get_or-eq_default rows idle out)) in
     omega arith
 
 -- what holds of a row set at j and of every other row holds of each row after

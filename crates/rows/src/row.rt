@@ -29,8 +29,7 @@ pub fn earlier(a: Turn, b: Turn) -> bool
 pub fn live(r: Row) -> bool
     ensures { result ≡ live r }
 {
-    let turn = r.turn;
-    earlier(Turn(0), turn)
+    earlier(Turn(0), r.turn)
 }
 
 // The row of a job that has no request.

@@ -4,5 +4,5 @@
 mod print;
 mod tables;
 
-pub use print::{CUT, Room, word};
+pub use print::{CUT, word};
 pub use tables::show;

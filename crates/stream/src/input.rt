@@ -1,51 +1,32 @@
 // Pieces of standard input.
+ghost use Rattle.std.specs.Prelude.{IfErr, IfOk};
 ghost use Rattle.stream.specs.Counts.{IsPrefixLen};
 
 use std::io::Read;
 
-// How many bytes came, and whether a read failed. Where fewer came than there is room for and none failed, the input has ended.
-#[derive(Clone, Copy)]
-pub struct Piece {
+// A read failed after so many bytes had come.
+#[derive(Clone, Copy, Debug, PartialEq, Eq)]
+pub struct ReadFailed {
     pub count: usize,
-    pub failed: bool,
 }
 
-// Reads once. A failure is said on standard error.
-fn read_some(rt: &(impl Input + Eprint), part: &mut [u8]) -> Piece
-    ensures { IsPrefixLen result.count part.new }
+// Reads until the piece is full, the input ends or a read fails, and returns how many bytes came; they stand at the front.
+// A failure is said on standard error. Where fewer came than there is room for and none failed, the input has ended.
+pub fn fill(rt: &(impl Input + Eprint), piece: &mut [u8]) -> Result<usize, ReadFailed>
+    ensures whole { IfOk result (λ count. IsPrefixLen count piece.new) }
+    ensures cut { IfErr result (λ failed. IsPrefixLen failed.count piece.new) }
 {
-    match rt.reader().read(part) {
-        Ok(count) => Piece {
-            count,
-            failed: false,
-        },
-        Err(error) => {
-            let _ = eprintln!(rt; "standard input: {error}");
-            Piece {
-                count: 0,
-                failed: true,
+    let mut count = 0;
+    // each read says how far it came
+    while count < piece.len() {
+        match rt.reader().read(&mut piece[count..]) {
+            Ok(0) => break,
+            Ok(more) => count += more,
+            Err(error) => {
+                let _ = eprintln!(rt; "standard input: {error}");
+                return Err(ReadFailed { count });
             }
         }
     }
-}
-
-// Reads until the piece is full, the input ends or a read fails; what came stands at the front.
-pub fn fill(rt: &(impl Input + Eprint), piece: &mut [u8]) -> Piece
-    ensures { IsPrefixLen result.count piece.new }
-{
-    let mut count = 0;
-    while count < piece.len() {
-        let more = read_some(rt, &mut piece[count..]);
-        if more.count == 0 {
-            return Piece {
-                count,
-                failed: more.failed,
-            };
-        }
-        count += more.count;
-    }
-    Piece {
-        count,
-        failed: false,
-    }
+    Ok(count)
 }

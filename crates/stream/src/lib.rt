@@ -5,5 +5,5 @@
 mod input;
 mod print;
 
-pub use input::{Piece, fill};
-pub use print::{Out, bytes, flush, number, text, word};
+pub use input::{ReadFailed, fill};
+pub use print::Printer;

@@ -1,16 +1,24 @@
 // Text and numbers to standard output.
-ghost use Rattle.std.specs.Prelude.{◌≤◌, length};
+ghost use Rattle.std.specs.Prelude.{length, ◌<◌, ◌↔◌, ◌≡◌, ◌≤◌, true};
 ghost use Rattle.decimal.specs.Text.{text as decimal};
-ghost use Rattle.stream.specs.Printing.{Flushed, Printed, Ready};
+ghost use Rattle.stream.specs.Printing.{Printed, place_for};
+ghost use Rattle.stream.specs.declared.print.TheConstants.{ROOM};
 
 use std::io::ErrorKind;
 
-// How many bytes wait at the front of the room, and how many writes failed: after the first nothing is written any more.
-// A program begins with 0 and 0.
-#[derive(Clone, Copy)]
-pub struct Out {
-    pub at: usize,
+// How many bytes can wait.
+const ROOM: usize = 65536;
+
+// Standard output, and the room in which bytes wait, so that the system is called once for many of them.
+#[derive(Drop)]
+pub struct Printer<'a, R> {
+    rt: &'a R,
+    room: [u8; ROOM],
+    // how many bytes wait at the front of the room
+    at: usize,
+    // how many writes failed: after the first nothing is written any more
     pub failures: u32,
+    ghost fits: { at ≤ ROOM },
 }
 
 // Writes the bytes, unless a write failed before. A failure is said on standard error, but for a reader that has gone away:
@@ -32,88 +40,95 @@ fn hand_over(rt: &(impl Print + Eprint), failures: u32, bytes: &[u8]) -> u32
     }
 }
 
-// Writes what waits.
-pub fn flush(rt: &(impl Print + Eprint), out: Out, room: &[u8]) -> Out
-    ensures { Flushed out result }
-{
-    let at = out.at;
-    if room.len() < at {
-        return Out {
+impl<'a, R: Print + Eprint> Printer<'a, R> {
+    // Nothing waits, and no write failed.
+    pub fn new(rt: &'a R) -> Printer<'a, R>
+        ensures none { result.at ≡ 0 }
+        ensures fresh { result.failures ≡ 0 }
+    {
+        Printer {
+            rt,
+            room: [0; ROOM],
             at: 0,
-            failures: hand_over(rt, out.failures, room),
-        };
+            failures: 0,
+        }
     }
-    Out {
-        at: 0,
-        failures: hand_over(rt, out.failures, &room[..at]),
-    }
-}
 
-// Makes sure that n bytes fit after what waits; if they do not, writes that.
-fn ready(rt: &(impl Print + Eprint), out: Out, room: &[u8], n: usize) -> Out
-    ensures { Ready (length room.now) out n result }
-{
-    if room.len() < out.at {
-        return flush(rt, out, room);
+    // Whether a write failed.
+    pub fn failed(&self) -> bool
+        ensures { (result ≡ true) ↔ (0 < self.now.failures) }
+    {
+        0 < self.failures
     }
-    if room.len() - out.at < n {
-        return flush(rt, out, room);
+
+    // Writes what waits.
+    pub fn flush(&mut self)
+        ensures none { self.new.at ≡ 0 }
+        ensures room { self.new.room ≡ self.old.room }
+        ensures kept { self.old.failures ≤ self.new.failures }
+    {
+        self.failures = hand_over(self.rt, self.failures, &self.room[..self.at]);
+        self.at = 0;
     }
-    out
-}
 
-// Prints the bytes. They wait in the room, which is written first if they do not fit after what waits there; a text that is
-// longer than the room goes straight out.
-pub fn text(rt: &(impl Print + Eprint), out: Out, room: &mut [u8], bytes: &[u8]) -> Out
-    ensures { Printed room.old out bytes.now result room.new }
-{
-    let start = ready(rt, out, room, bytes.len());
-    if room.len() < bytes.len() {
-        return Out {
-            at: 0,
-            failures: hand_over(rt, start.failures, bytes),
-        };
+    // Makes sure that n bytes fit after what waits; if they do not, writes that.
+    fn ready(&mut self, n: usize)
+        ensures place { self.new.at ≡ place_for (length self.old.room) self.old.at n }
+        ensures room { self.new.room ≡ self.old.room }
+        ensures kept { self.old.failures ≤ self.new.failures }
+    {
+        if ROOM - self.at < n {
+            self.flush();
+        }
     }
-    let end = decimal::put(bytes, room, start.at);
-    Out {
-        at: end,
-        failures: start.failures,
+
+    // Writes what waits and then the bytes, straight out.
+    pub fn write(&mut self, bytes: &[u8])
+        ensures none { self.new.at ≡ 0 }
+        ensures room { self.new.room ≡ self.old.room }
+        ensures kept { self.old.failures ≤ self.new.failures }
+    {
+        self.flush();
+        self.failures = hand_over(self.rt, self.failures, bytes);
     }
-}
 
-// Prints a number in decimal.
-pub fn number(rt: &(impl Print + Eprint), out: Out, room: &mut [u8], n: u64) -> Out
-    ensures { Printed room.old out (decimal n) result room.new }
-{
-    let mut digits = [0u8; 20];
-    let end = decimal::write(n, &mut digits, 0);
-    text(rt, out, room, &digits[..end])
-}
-
-// Prints words and then a number.
-pub fn word(rt: &(impl Print + Eprint), out: Out, room: &mut [u8], words: &[u8], n: u64) -> Out
-    ensures { out.failures ≤ result.failures }
-{
-    let begun = text(rt, out, room, words);
-    number(rt, begun, room, n)
-}
-
-// Prints a space and then a byte as a number.
-fn spaced(rt: &(impl Print + Eprint), out: Out, room: &mut [u8], byte: u8) -> Out
-    ensures { out.failures ≤ result.failures }
-{
-    word(rt, out, room, b" ", byte as u64)
-}
-
-// Prints each byte of a list as a number, a space before each.
-pub fn bytes(rt: &(impl Print + Eprint), out: Out, room: &mut [u8], list: &[u8]) -> Out
-    ensures { out.failures ≤ result.failures }
-{
-    let mut told = out;
-    let mut i = 0;
-    while i < list.len() {
-        told = spaced(rt, told, room, list[i]);
-        i += 1;
+    // Prints the bytes. They wait in the room, which is written first if they do not fit after what waits there; a text
+    // that is longer than the room goes straight out.
+    pub fn text(&mut self, bytes: &[u8])
+        ensures printed { Printed self.old.room self.old.at bytes.now self.new.room self.new.at }
+        ensures kept { self.old.failures ≤ self.new.failures }
+    {
+        if ROOM < bytes.len() {
+            return self.write(bytes);
+        }
+        self.ready(bytes.len());
+        self.at = decimal::put(bytes, &mut self.room, self.at);
     }
-    told
+
+    // Prints a number in decimal.
+    pub fn number(&mut self, n: u64)
+        ensures printed { Printed self.old.room self.old.at (decimal n) self.new.room self.new.at }
+        ensures kept { self.old.failures ≤ self.new.failures }
+    {
+        let mut digits = [0u8; 20];
+        let end = decimal::write(n, &mut digits, 0);
+        self.text(&digits[..end]);
+    }
+
+    // Prints words and then a number.
+    pub fn word(&mut self, words: &[u8], n: u64)
+        ensures { self.old.failures ≤ self.new.failures }
+    {
+        self.text(words);
+        self.number(n);
+    }
+
+    // Prints each byte of a list as a number, a space before each.
+    pub fn bytes(&mut self, list: &[u8])
+        ensures { self.old.failures ≤ self.new.failures }
+    {
+        for byte in list {
+            self.word(b" ", *byte as u64);
+        }
+    }
 }

@@ -1,6 +1,6 @@
 -- The jobs of a line, as code reads them.
-use Rattle.std.specs.Prelude.{◌&&◌, ◌<◌, ◌≡◌, ◌≤◌, ◌⊎◌}
-use Rattle.sweep.specs.Prelude.{Bool, Line, Lines, List, Row, ◌∙◌, ap, arith, false, get_or, get_or-take, inl, inr, jobs, length, length_lined_le, line, line_below, ltb, ltb-false, refl, sym, true, ℕ}
+use Rattle.std.specs.Prelude.{◌<◌, ◌≡◌, ◌≤◌}
+use Rattle.sweep.specs.Prelude.{Line, Lines, List, Row, ◌∙◌, ap, arith, get_or, get_or-take, jobs, length, length_lined_le, line, line_below, sym, take, ℕ}
 
 module _ (rows : List Row) {l : Line} (lines : Lines rows l) where
   -- job by job it is the line of the rows
@@ -19,11 +19,13 @@ module _ (rows : List Row) {l : Line} (lines : Lines rows l) where
         let below = line_below rows p (omega (arith, lines.number)) in
         omega (arith, job_here p within)
 
--- ---- Where two tests do not hold together
+  -- the entries that a loop over the line goes through are the jobs of the line
+  pub entry_here : (p : ℕ) → get_or (line rows) p 0 ≡ get_or (take l.len l.jobs) p 0
+  entry_here p = ap (λ (js : List ℕ). get_or js p 0) (sym lines.list)
 
-pub either_past : (p len a T : ℕ) → (ltb p len && ltb a T) ≡ false → (len ≤ p) ⊎ (T ≤ a)
-either_past p len a T e = go (ltb p len) refl e
-  where
-    go : (b : Bool) → ltb p len ≡ b → (b && ltb a T) ≡ false → (len ≤ p) ⊎ (T ≤ a)
-    go true h e = inr (ltb-false a T e)
-    go false h e = inl (ltb-false p len h)
+  pub entries : length (take l.len l.jobs) ≡ length (line rows)
+  entries = ap length lines.list
+
+  -- and each has a row
+  pub entry_below : length rows ≡ jobs → (p : ℕ) → p < length (take l.len l.jobs) → get_or (take l.len l.jobs) p 0 < jobs
+  entry_below long p within = rw (← entry_here p) (omega (arith, long, line_below rows p (omega (arith, entries, within))))

@@ -3,8 +3,7 @@ use Rattle.std.specs.Prelude.{◌≡◌}
 use Rattle.sweep.specs.Prelude.{List, Row, ℕ}
 use Rattle.laws.specs.Determined.{determined}
 use Rattle.line.specs.Determined.{listed_determined}
-use Rattle.sweep.specs.Sweeping.{Settles}
-use Rattle.sweep.specs.declared.settling.Swept.{Swept}
+use Rattle.sweep.specs.Sweeping.{Settles, Swept}
 
 pub settles_determined :
     {T : ℕ} {rows : List Row} {k : ℕ} {x : Row} {before after after' : List ℕ} {r r' : Swept} → Settles T rows k x before r after →

@@ -5,7 +5,6 @@ use Rattle.rows.specs.Line.{row_of}
 use Rattle.rows.specs.Order.{ahead, idle}
 use Rattle.rows.specs.Sweep.{settled, woken}
 use Rattle.rows.specs.declared.row.Row.{Row}
-use Rattle.sweep.specs.declared.settling.Swept.{Swept}
 
 -- job k has a request that may act: it is live, has a token, and asks for nothing
 pub record Acts (T : ℕ) (rows : List Row) (k : ℕ) : Type 0 where
@@ -22,6 +21,11 @@ pub data Onward (r x : Row) : Type 0 where
 -- the rows after job k's row has become x: what the others wait for is settled again
 abbrev pub settled_rows : ℕ → List Row → ℕ → Row → List Row
 settled_rows T rows k x = settled T (set rows k x)
+
+-- the rows after such an event, and how many jobs it woke
+pub record Swept : Type 0 where
+  pub rows : List Row
+  pub count : ℕ
 
 -- these are those rows, and who waited before and does not wait after was listed
 pub record Settles (T : ℕ) (rows : List Row) (k : ℕ) (x : Row) (before : List ℕ) (r : Swept) (after : List ℕ) : Type 0 where

@@ -3,4 +3,4 @@
 
 mod settling;
 
-pub use settling::{Swept, settle, settle_in};
+pub use settling::settle;

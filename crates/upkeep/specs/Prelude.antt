@@ -1,12 +1,10 @@
 -- The names from outside that this crate's definitions and proofs use, passed on by one module.
-pub use Rattle.std.specs.Prelude.{◌+◌, ◌-◌, ◌<◌, ◌≤◌, suc, zero, ℕ, Bool, cond, false, true, List, [], ◌++◌, ◌∷◌, ◌≢◌, ◌≡◌, refl, eqb, drop, get_or, length, set, take}
-pub use Rattle.std.proofs.Common.{◌∙◌, ap, subst, sym, le_of_suc-le-suc, not-suc-le-zero, zero-lt-suc, add-one, arith, rules, eq-eqb, lt-ltb, ne_eqb, drop_of_length-le, length-set, drop-cons, get_or-set_other, get_or-set_same, get_or-take, length-take-le, take-suc-set}
+pub use Rattle.std.specs.Prelude.{◌+◌, ◌-◌, ◌<◌, ◌≤◌, suc, zero, ℕ, Bool, cond, List, [], ◌++◌, ◌∷◌, ◌≢◌, ◌≡◌, refl, eqb, drop, get_or, length, set, take}
+pub use Rattle.std.proofs.Common.{◌∙◌, ap, subst, sym, le_of_suc-le-suc, not-suc-le-zero, zero-lt-suc, add-one, arith, rules, eq-eqb, lt-ltb, ne_eqb, drop_of_length-le, length-set, drop-cons, get_or-set_other, get_or-set_same}
 pub use Rattle.std.proofs.Math.Decide.{ℕ_discrete}
 pub use Rattle.std.proofs.lemmas.Bool.{not-false, not-true}
 pub use Rattle.laws.specs.Bools.{bit}
-pub use Rattle.laws.specs.ListLaws.{Filled, filled_more}
 pub use Rattle.laws.specs.Sets.{union}
-pub use Rattle.event.specs.Limits.{jobs}
 pub use Rattle.rows.specs.Line.{line, row_of}
 unfoldable pub use Rattle.rows.specs.Line.{keep}
 pub use Rattle.rows.specs.Order.{ahead, earlier, idle, live}

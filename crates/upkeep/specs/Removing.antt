@@ -1,33 +1,25 @@
 -- Laws of a list without one of its entries.
-use Rattle.std.specs.Prelude.{◌++◌, ◌<◌, ◌∷◌, ◌≡◌, ◌≢◌, ◌≤◌}
-use Rattle.upkeep.specs.Prelude.{List, [], ap, arith, besides, drop, eq-eqb, get_or, keep, le_of_suc-le-suc, length, ne_eqb, not-suc-le-zero, refl, set, suc, sym, take, zero, zero-lt-suc, ℕ}
-use Rattle.upkeep.specs.Upkeep.{removed}
+use Rattle.std.specs.Prelude.{◌+◌, ◌++◌, ◌-◌, ◌<◌, ◌∷◌, ◌≡◌, ◌≢◌, ◌≤◌}
+use Rattle.std.specs.List.{copy_within, remove}
+use Rattle.std.proofs.lemmas.List.{length-drop, drop-take, take-take}
+use Rattle.std.proofs.lemmas.List.Edits.{take-paste}
+use Rattle.upkeep.specs.Prelude.{◌∙◌, add-one, List, [], ap, arith, besides, drop, eq-eqb, get_or, keep, le_of_suc-le-suc, length, ne_eqb, not-suc-le-zero, refl, suc, sym, take, zero, zero-lt-suc, ℕ}
 
--- the entry after a place is copied there, and its own place is free
-pub removed_next : (l : List ℕ) (p : ℕ) → suc p < length l → removed (suc p) (set l p (get_or l (suc p) 0)) ≡ removed p l
-removed_next [] p h = absurd (not-suc-le-zero h)
-removed_next (x ∷ []) p h = absurd (not-suc-le-zero (le_of_suc-le-suc h))
-removed_next (x ∷ y ∷ l) zero h = refl
-removed_next (x ∷ y ∷ l) (suc p) h = ap (λ (m : List ℕ). x ∷ m) (removed_next (y ∷ l) p (le_of_suc-le-suc h))
-
--- before the place nothing has moved
-pub removed_front : (l : List ℕ) (p : ℕ) → p ≤ length l → take p (removed p l) ≡ take p l
-removed_front l zero h = refl
-removed_front [] (suc p) h = absurd (not-suc-le-zero h)
-removed_front (x ∷ l) (suc p) h = ap (λ (m : List ℕ). x ∷ m) (removed_front l p (le_of_suc-le-suc h))
-
--- the first entries without one of them
-pub removed_take : (l : List ℕ) (p n : ℕ) → p ≤ n → take n (removed p l) ≡ removed p (take (suc n) l)
-removed_take [] zero zero h = refl
-removed_take [] zero (suc n) h = refl
-removed_take [] (suc p) zero h = refl
-removed_take [] (suc p) (suc n) h = refl
-removed_take (x ∷ l) zero n h = refl
-removed_take (x ∷ l) (suc p) zero h = absurd (not-suc-le-zero h)
-removed_take (x ∷ l) (suc p) (suc n) h = ap (λ (m : List ℕ). x ∷ m) (removed_take l p n (le_of_suc-le-suc h))
+-- with those behind a place copied one place forward, the list but for its last entry is the list without that place
+pub removed_copied :
+    (l : List ℕ) (p n : ℕ) → p < n → n ≤ length l → take (n - 1) (copy_within l (p + 1) n p) ≡ remove (take n l) p
+removed_copied l p n h inside =
+    let m = n - (p + 1) in
+    let first : n - 1 ≡ p + m = omega arith in
+    let all : n ≡ suc p + m = omega arith in
+    rw first (take-paste l p (drop (p + 1) l) m (omega arith) (omega (arith, length-drop (p + 1) l)))
+    ∙ (λ i. sym (take-take p n l (omega arith)) i ++ rest m all i)
+  where
+    rest : (m : ℕ) → n ≡ suc p + m → take m (drop (p + 1) l) ≡ drop (suc p) (take n l)
+    rest m e = rw (e, add-one p) (sym (drop-take (suc p) m l))
 
 -- where it is the last, the list is the others and it
-pub removed_last : (l m : List ℕ) (k : ℕ) → length m < length l → removed (length m) l ≡ m → get_or l (length m) 0 ≡ k → l ≡ m ++ k ∷ []
+pub removed_last : (l m : List ℕ) (k : ℕ) → length m < length l → remove l (length m) ≡ m → get_or l (length m) 0 ≡ k → l ≡ m ++ k ∷ []
 removed_last [] m k h e at = absurd (not-suc-le-zero h)
 removed_last (x ∷ l) [] k h e at = λ i. at i ∷ e i
 removed_last (x ∷ l) (y ∷ m) k h e at = λ i. heads i ∷ removed_last l m k (le_of_suc-le-suc h) tails at i
@@ -35,7 +27,7 @@ removed_last (x ∷ l) (y ∷ m) k h e at = λ i. heads i ∷ removed_last l m k
     heads : x ≡ y
     heads = ap (λ (s : List ℕ). get_or s 0 0) e
 
-    tails : removed (length m) l ≡ m
+    tails : remove l (length m) ≡ m
     tails = ap (λ (s : List ℕ). drop 1 s) e
 
 -- a list that has job k nowhere keeps all of its jobs
@@ -49,7 +41,7 @@ keep_all k (j ∷ l) other =
 -- where job k stands at one place alone, the list without that place is the list without k
 pub removed_besides :
     (l : List ℕ) (p k : ℕ) → p < length l → get_or l p 0 ≡ k → ((i : ℕ) → i < length l → i ≢ p → get_or l i 0 ≢ k) →
-    removed p l ≡ keep (besides k) l
+    remove l p ≡ keep (besides k) l
 unfolding keep
 removed_besides [] p k h here other = absurd (not-suc-le-zero h)
 removed_besides (j ∷ l) zero k h here other =

@@ -1,7 +1,10 @@
 -- A line kept by code, and the declared sets beside it.
-use Rattle.std.specs.Prelude.{ℕ, suc, ◌+◌, ◌-◌, ◌<◌, Bool, cond, List, [], ◌∷◌, ◌++◌, ◌≡◌, eqb, drop, get_or, length, take}
+use Rattle.std.specs.Prelude.{ℕ, ◌+◌, ◌-◌, ◌<◌, Bool, cond, List, [], ◌∷◌, ◌++◌, ◌≡◌, eqb, get_or, length}
+use Rattle.std.specs.List.{remove}
 use Rattle.event.specs.Limits.{jobs}
 use Rattle.laws.specs.Sets.{union}
+use Rattle.line.specs.LineInCode.{jobs_of}
+use Rattle.line.specs.declared.Line.{Line}
 use Rattle.rows.specs.Line.{row_of}
 use Rattle.rows.specs.Stand.{front}
 use Rattle.rows.specs.declared.row.Row.{Row}
@@ -18,18 +21,14 @@ standing_in column k s [] = front
 standing_in column k s (j ∷ l) =
     cond (eqb j k) s (standing_in column k (record { ahead = s.ahead + 1; claims = union s.claims (get_or column j 0) }) l)
 
--- a list without its entry at place p
-abbrev pub removed : ℕ → List ℕ → List ℕ
-removed p l = take p l ++ drop (suc p) l
+-- a job that comes has been put at the end of a line
+pub record Appended (comes : Bool) (job : ℕ) (before after : Line) : Type 0 where
+  pub number : after.len ≡ cond comes (before.len + 1) before.len
+  pub list : jobs_of after ≡ cond comes (jobs_of before ++ job ∷ []) (jobs_of before)
+  pub long : length after.jobs ≡ jobs
 
--- of the line of the first len entries: a job that comes has been put at its end, and n jobs are in line then
-pub record Appended (comes : Bool) (job len : ℕ) (before : List ℕ) (n : ℕ) (after : List ℕ) : Type 0 where
-  pub number : n ≡ cond comes (len + 1) len
-  pub list : take n after ≡ cond comes (take len before ++ job ∷ []) (take len before)
-  pub long : length after ≡ jobs
-
--- the job at a place, if it goes, has been taken out, and n jobs are in line then
-pub record Removed (goes : Bool) (place len : ℕ) (before : List ℕ) (n : ℕ) (after : List ℕ) : Type 0 where
-  pub number : n ≡ cond goes (len - 1) len
-  pub list : take n after ≡ cond goes (removed place (take len before)) (take len before)
-  pub long : length after ≡ jobs
+-- the job at a place in line, if it goes, has been taken out
+pub record Removed (goes : Bool) (place : ℕ) (before after : Line) : Type 0 where
+  pub number : after.len ≡ cond goes (before.len - 1) before.len
+  pub list : jobs_of after ≡ cond goes (remove (jobs_of before) place) (jobs_of before)
+  pub long : length after.jobs ≡ jobs

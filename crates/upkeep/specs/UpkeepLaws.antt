@@ -1,8 +1,9 @@
 -- What is kept is what the rows say: a job's standing and its place by the line, and the line when a job goes or comes.
 use Rattle.std.specs.Prelude.{◌++◌, ◌+◌, ◌<◌, ◌∷◌, ◌≡◌, ◌≢◌, ◌≤◌}
+use Rattle.std.specs.List.{remove}
 use Rattle.upkeep.specs.Prelude.{Bool, Distinct, List, Onward, Row, Standing, Stands, Turn, Walk, [], ◌∙◌, ahead, ahead_set, ap, arith, at_set, behind, bit, cond, earlier, ended, eq-eqb, eqb, front, get_or, get_or-set_other, get_or-set_same, idle, length, length-set, length_settled, line, line_besides, line_places, line_turns, live, live_within, lt-ltb, ne_eqb, not_earlier, one_place, opening_of, refl, row_settled, row_of, set, settled, settled_rows, stayed, subst, suc, swept_keeps, sym, turn_settled, union, walk_alive, walk_end, walk_stands, walk_start, walk_step, zero, ℕ, ℕ_discrete}
 use Rattle.upkeep.specs.Removing.{removed_besides, removed_last}
-use Rattle.upkeep.specs.Upkeep.{Declares, removed, standing_in}
+use Rattle.upkeep.specs.Upkeep.{Declares, standing_in}
 
 -- with a row of the same turn in its place, the line is the same
 pub line_same :
@@ -83,26 +84,26 @@ module _ (rows : List Row) (apart : Distinct rows) (k : ℕ) (alive : 0 < (row_o
       differs (sym (line_places rows apart i within).1 ∙ ap (λ (j : ℕ). ahead rows (row_of rows j).turn.0) same)
 
   -- without its place, the line is that of the rows with its own idle
-  pub line_without : removed own (line rows) ≡ line (set rows k idle)
+  pub line_without : remove (line rows) own ≡ line (set rows k idle)
   line_without =
       removed_besides (line rows) own k line_place.0 line_place.1 line_once
       ∙ sym (line_besides rows k (live_within rows k alive))
 
   -- that is the line after its request has ended, for the sweep moves no turn; if it goes on, the line stays
   pub line_settled :
-      (T : ℕ) (x : Row) → Onward (row_of rows k) x → line (settled_rows T rows k x) ≡ cond (live x) (line rows) (removed own (line rows))
+      (T : ℕ) (x : Row) → Onward (row_of rows k) x → line (settled_rows T rows k x) ≡ cond (live x) (line rows) (remove (line rows) own)
   line_settled T x onward =
       line_turns (settled_rows T rows k x) (set rows k x) (λ j. ap (λ (t : Turn). t.0) (turn_settled T (set rows k x) j))
       (length_settled T (set rows k x))
       ∙ go onward
     where
-      go : Onward (row_of rows k) x → line (set rows k x) ≡ cond (live x) (line rows) (removed own (line rows))
+      go : Onward (row_of rows k) x → line (set rows k x) ≡ cond (live x) (line rows) (remove (line rows) own)
       go (ended e) =
           ap (λ (r : Row). line (set rows k r)) e ∙ sym line_without
-          ∙ sym (ap (λ (r : Row). cond (live r) (line rows) (removed own (line rows))) e)
+          ∙ sym (ap (λ (r : Row). cond (live r) (line rows) (remove (line rows) own)) e)
       go (stayed turn _ _) =
           line_same rows k x (live_within rows k alive) turn
-          ∙ sym (ap (λ (b : Bool). cond b (line rows) (removed own (line rows))) (lt-ltb 0 x.turn.0 (omega arith)))
+          ∙ sym (ap (λ (b : Bool). cond b (line rows) (remove (line rows) own)) (lt-ltb 0 x.turn.0 (omega arith)))
 
 -- ---- Who comes
 
@@ -116,7 +117,7 @@ line_joined rows k x within apart idles alive all =
     let turn : (row_of rows' k).turn.0 ≡ x.turn.0 = ap (λ (r : Row). r.turn.0) is in
     let own = ahead rows' (row_of rows' k).turn.0 in
     let found = line_place rows' apart k (omega arith) in
-    let others : removed own (line rows') ≡ line rows = line_without rows' apart k (omega arith) ∙ ap line idles in
+    let others : remove (line rows') own ≡ line rows = line_without rows' apart k (omega arith) ∙ ap line idles in
     let was : row_of rows k ≡ idle =
     ap (λ (l : List Row). row_of l k) (sym idles) ∙ get_or-set_same rows' k idle idle (omega (arith, length-set rows k x)) in
     let place : own ≡ length (line rows) =
@@ -129,7 +130,7 @@ line_joined rows k x within apart idles alive all =
       ap bit (not_earlier x.turn.0 x (omega arith)),
       found.0,
     ) in
-    removed_last (line rows') (line rows) k (omega (arith, found.0)) (ap (λ (p : ℕ). removed p (line rows')) (sym place) ∙ others)
+    removed_last (line rows') (line rows) k (omega (arith, found.0)) (ap (λ (p : ℕ). remove (line rows') p) (sym place) ∙ others)
     (ap (λ (p : ℕ). get_or (line rows') p 0) (sym place) ∙ found.1)
 
 -- ---- The declared sets

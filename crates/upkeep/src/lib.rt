@@ -1,8 +1,9 @@
 // The line and the declared sets, kept up to date from event to event: whoever keeps them need not look at all rows.
 #![tactic(auto)]
 
-ghost use Rattle.std.specs.Prelude.{◌<◌, ◌≤◌, cond, true, ◌≡◌, length, take};
+ghost use Rattle.std.specs.Prelude.{◌<◌, ◌≤◌, cond, true, ◌≡◌};
 ghost use Rattle.event.specs.Limits.{jobs};
+ghost use Rattle.line.specs.LineInCode.{jobs_of};
 ghost use Rattle.line.specs.Placing.{Below};
 ghost use Rattle.rows.specs.Order.{live};
 ghost use Rattle.rows.specs.Stand.{front};
@@ -10,41 +11,26 @@ ghost use Rattle.upkeep.specs.Upkeep.{Appended, Declares, Removed, standing_in};
 
 use event::JOBS;
 use laws::sets;
+use line::Line;
 use rows::{Row, Standing, front, live};
 
 // The declared set of each job.
-pub fn declared_by(rows: [Row; JOBS]) -> [u64; JOBS]
-    ensures { Declares rows result }
+pub fn declared_by(rows: &[Row; JOBS]) -> [u64; JOBS]
+    ensures { Declares rows.now result }
 {
-    let mut declared = [0u64; JOBS];
-    let mut k = 0;
-    while k < JOBS {
-        let r = rows[k];
-        declared[k] = r.declared;
-        k += 1;
-    }
-    declared
+    rows.map(|r| r.declared)
 }
 
-// What stands before the job of a row in the line of the first len jobs. A row that is no request is in no line.
-pub fn standing_of(
-    r: Row,
-    line: &[u8; JOBS],
-    len: usize,
-    declared: &[u64; JOBS],
-    job: u8,
-) -> Standing
-    requires len_le_jobs { (len ≤ jobs) × Below len line.now }
-    requires line_len { (length line.now ≡ jobs) × (length declared.now ≡ jobs) }
-    ensures { result ≡ cond (live r) (standing_in declared.now job front (take len line.now)) front }
+// What stands before the job of a row in line. A row that is no request is in no line.
+pub fn standing_of(r: Row, line: &Line, declared: &[u64; JOBS], job: u8) -> Standing
+    requires { (line.now.len ≤ jobs) × Below line.now }
+    ensures { result ≡ cond (live r) (standing_in declared.now job front (jobs_of line.now)) front }
 {
     if !live(r) {
         return front();
     }
     let mut claims = 0;
-    let mut p = 0;
-    while p < len {
-        let other = line[p];
+    for (p, &other) in line.jobs[..line.len].iter().enumerate() {
         if other == job {
             return Standing {
                 ahead: p as u32,
@@ -52,36 +38,28 @@ pub fn standing_of(
             };
         }
         claims = sets::union(claims, declared[other as usize]);
-        p += 1;
     }
     front()
 }
 
-// Puts a job at the end of the line of the first len jobs if it comes; returns how many jobs are in line then.
-pub fn append(line: &mut [u8; JOBS], len: usize, job: u8, comes: bool) -> usize
-    requires { (comes ≡ true → len < jobs) × (length line.old ≡ jobs) }
-    ensures { Appended comes job len line.old result line.new }
+// Puts a job at the end of the line if it comes.
+pub fn append(line: &mut Line, job: u8, comes: bool)
+    requires { comes ≡ true → line.old.len < jobs }
+    ensures { Appended comes job line.old line.new }
 {
-    if !comes {
-        return len;
+    if comes {
+        line.jobs[line.len] = job;
+        line.len += 1;
     }
-    line[len] = job;
-    len + 1
 }
 
-// Takes the job at a place out of the line of the first len jobs if it goes: those behind it move up; returns how many jobs are
-// in line then.
-pub fn remove(line: &mut [u8; JOBS], len: usize, place: usize, goes: bool) -> usize
-    requires { (place < len) × (len ≤ jobs) × (length line.old ≡ jobs) }
-    ensures { Removed goes place len line.old result line.new }
+// Takes the job at a place out of the line if it goes: those behind it move up.
+pub fn remove(line: &mut Line, place: usize, goes: bool)
+    requires { (place < line.old.len) × (line.old.len ≤ jobs) }
+    ensures { Removed goes place line.old line.new }
 {
-    if !goes {
-        return len;
+    if goes {
+        line.jobs.copy_within(place + 1..line.len, place);
+        line.len -= 1;
     }
-    let mut p = place;
-    while p + 1 < len {
-        line[p] = line[p + 1];
-        p += 1;
-    }
-    len - 1
 }

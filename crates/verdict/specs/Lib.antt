@@ -1,3 +1,2 @@
 -- Why an event is refused.
-pub mod Prelude
 pub mod Verdicts

@@ -1,79 +1,59 @@
 -- Laws of the pace: what the walk's loop keeps, at the beginning, at each job, at the end.
-use Rattle.std.specs.Prelude.{◌&&◌, ◌+◌, ◌<◌, ◌≡◌, ◌≤◌}
-use Rattle.walk.specs.Prelude.{Bool, Bounds, Line, Lines, List, Pace, Row, ◌∙◌, and_left, and_right, ap, arith, below, beside_by, cond, drop, eqb, eqb-false, eqb-true, false, front, get_or, holds, line, ltb, meets, not, refl, row_of, sym, true, ℕ}
-use Rattle.walk.specs.Pace.{begun, finished, paced}
+use Rattle.std.specs.Prelude.{◌&&◌, ◌+◌, ◌<◌, ◌∷◌, ◌≡◌, ◌≤◌, None, Some}
+use Rattle.walk.specs.Prelude.{Bool, Bounds, List, Pace, Row, ◌∙◌, add-one, ap, suc, below, cond, drop, drop-cons, drop_of_length-le, false, get_or, length, line, ltb, not, refl, row_of, subst, true, ℕ}
+use Rattle.walk.specs.Pace.{begun, finished, follows, paced, past}
 use Rattle.walk.specs.Walk.{Walking, Walks}
-use Rattle.walk.specs.WalkLaws.{walking_end, walking_fails, walking_falls, walking_finds, walking_past, walking_start}
+use Rattle.walk.specs.WalkLaws.{nowhere, walking_end, walking_fails, walking_on, walking_start}
 
--- p jobs were passed, all rows so far are sound, and the walk goes on along what is left
+-- p jobs were passed, and the walk goes on along what is left
 pub record Pacing (b : Bounds) (rows : List Row) (job p : ℕ) (w : Pace) : Type 0 where
-  pub sound : w.sound ≡ true
   pub passed : w.s.ahead ≡ p
-  pub going : Walking b rows job w.s w.passed.0 w.standing w.row (drop p (line rows))
+  pub going : Walking b rows job w.s w.passed.0 w.place (drop p (line rows))
 
 -- at the beginning the whole line is left
 pub pacing_start : (b : Bounds) (rows : List Row) (job : ℕ) (w : Pace) → w ≡ begun → Pacing b rows job 0 w
-pacing_start b rows job w e =
-    rw e (record { sound = refl; passed = refl; going = walking_start b rows job front front begun.row refl refl refl })
+pacing_start b rows job w e = rw e (record { passed = refl; going = walking_start b rows job })
 
--- what a walk returns where it ends
-abbrev rest : Pace → Bounds → Bool
-rest w b = not (ltb b.last.0 w.passed.0) && below w.s.claims b.resources
+-- what was chosen by a test
+chosen : {A : Type 0} (t : Bool) (a v : A) → cond t (Some a) None ≡ Some v → (t ≡ true) × (a ≡ v)
+chosen true a v e = (refl, cc)
+chosen false a v e = absurd cc
+
+none_chosen : {A : Type 0} (t : Bool) (a : A) → cond t (Some a) None ≡ None → t ≡ false
+none_chosen true a e = absurd cc
+none_chosen false a e = refl
 
 -- at each job
-module _ (rows : List Row) (l : Line) (lines : Lines rows l) (p : ℕ) (inside : p < l.len) {b : Bounds} {job : ℕ} (w : Pace)
-    (now : Pacing b rows job p w) where
-  -- the job that comes next, and its row
-  abbrev k : ℕ
-  k = get_or l.jobs p 0
+module _ (rows : List Row) (p : ℕ) (inside : p < length (line rows)) (k : ℕ) (here : get_or (line rows) p 0 ≡ k) {b : Bounds}
+    {job : ℕ} (w : Pace) (now : Pacing b rows job p w) where
+  -- what is left begins with it
+  left : drop p (line rows) ≡ k ∷ drop (p + 1) (line rows)
+  left = rw (add-one p) (drop-cons (line rows) p 0 inside ∙ ap (λ (j : ℕ). j ∷ drop (suc p) (line rows)) here)
 
-  abbrev r : Row
-  r = row_of rows k
+  opened : Walking b rows job w.s w.passed.0 w.place (k ∷ drop (p + 1) (line rows))
+  opened = subst (Walking b rows job w.s w.passed.0 w.place) left now.going
 
-  -- its turn rises, and its row is sound beside what stands before it
-  abbrev rises : Bool
-  rises = ltb w.passed.0 r.turn.0
-
-  abbrev beside : Bool
-  beside = holds (beside_by b.tokens b.time r w.s.ahead (meets w.s.claims))
-
-  -- the pace one job further
-  abbrev next : Pace
-  next = paced w k r b job
-
-  -- where both tests pass, the walk goes on
-  pub pacing_step : (v : Pace) → v ≡ next → v.sound ≡ true → Pacing b rows job (p + 1) v
-  pacing_step v e sound =
-      let both = sym (ap (λ (x : Pace). x.sound) e) ∙ sound in
-      rw e
+  -- where its row may come next, the walk goes on
+  pub pacing_step : (v : Pace) → paced w k (row_of rows k) b job ≡ Some v → Pacing b rows job (p + 1) v
+  pacing_step v e =
+      let both = chosen (follows (row_of rows k) w.passed w.s b) (past w k (row_of rows k) job) v e in
+      rw (← both.1)
       (record {
-        sound = both;
         passed = ap (λ (n : ℕ). n + 1) now.passed;
-        going = onward (and_left rises beside both) (and_right rises beside both) (eqb k job) refl;
+        going = walking_on k (drop (p + 1) (line rows)) opened both.0;
       })
-    where
-      onward :
-          rises ≡ true → beside ≡ true → (same : Bool) → eqb k job ≡ same →
-          Walking b rows job next.s r.turn.0 (cond same w.s w.standing) (cond same r w.row) (drop (p + 1) (line rows))
-      onward did was true same =
-          walking_finds rows l lines p inside now.going rises beside refl (ap not did) refl (ap not was) next.s refl w.s r (eqb-true k job same) refl refl
-      onward did was false same =
-          walking_past rows l lines p inside now.going rises beside refl (ap not did) refl (ap not was) next.s refl w.standing w.row (eqb-false k job same) refl refl
 
-  -- where one fails, the whole test fails
-  pub pacing_stops : (v : Pace) → v ≡ next → v.sound ≡ false → Walks b rows job (finished v b)
-  pacing_stops v e broken = failing rises refl (sym (ap (λ (x : Pace). x.sound) e) ∙ broken)
-    where
-      told : (finished v b).sound ≡ false
-      told = ap (λ (t : Bool). t && rest v b) broken
+  -- where it may not, nothing is found
+  pub pacing_stops : paced w k (row_of rows k) b job ≡ None → Walks b rows job None
+  pacing_stops e =
+      nowhere b rows job
+      (walking_fails k (drop (p + 1) (line rows)) opened
+      (none_chosen (follows (row_of rows k) w.passed w.s b) (past w k (row_of rows k) job) e))
 
-      failing : (t : Bool) → rises ≡ t → (t && beside) ≡ false → Walks b rows job (finished v b)
-      failing true did fails = walking_fails rows l lines p inside now.going beside refl (ap not fails) (finished v b) told
-      failing false falls _ = walking_falls rows l lines p inside now.going rises refl (ap not falls) (finished v b) told
-
--- at the end the result of the whole test is returned
+-- at the end the last tests decide
 pub pacing_end :
-    (rows : List Row) (l : Line) (lines : Lines rows l) (p : ℕ) {b : Bounds} {job : ℕ} (w : Pace) → Pacing b rows job p w → l.len ≤ p →
+    (rows : List Row) (p : ℕ) {b : Bounds} {job : ℕ} (w : Pace) → Pacing b rows job p w → length (line rows) ≤ p →
     Walks b rows job (finished w b)
-pacing_end rows l lines p {b} w now past =
-    walking_end p (omega (arith, lines.number, past)) now.going (w.sound && rest w b) (ap (λ (t : Bool). t && rest w b) now.sound)
+pacing_end rows p {b} {job} w now past =
+    walking_end (subst (Walking b rows job w.s w.passed.0 w.place) (drop_of_length-le (line rows) {i = p} past) now.going)
+    (not (ltb b.last.0 w.passed.0) && below w.s.claims b.resources) refl

@@ -1,5 +1,5 @@
 -- The names from outside that this crate's definitions and proofs use, passed on by one module.
-pub use Rattle.std.specs.Prelude.{◌+◌, ◌<◌, ◌≤◌, suc, ℕ, Bool, ◌&&◌, ◌||◌, cond, false, not, true, List, [], ◌∷◌, ◌≢◌, ◌⊎◌, ◌≡◌, refl, eqb, ltb, drop, get_or, length}
+pub use Rattle.std.specs.Prelude.{◌+◌, ◌<◌, ◌≤◌, suc, ℕ, Bool, Option, None, Some, ◌&&◌, ◌||◌, cond, false, not, true, List, [], ◌∷◌, ◌≢◌, ◌⊎◌, ◌≡◌, refl, eqb, ltb, drop, get_or, length, take}
 pub use Rattle.std.proofs.Math.Bool.{and-false, and-true}
 pub use Rattle.std.proofs.lemmas.Bool.{false≢true, eqb-false, not-false, not-true}
 pub use Rattle.std.proofs.Common.{true≢false, inl, inr, ⊎_elim, ◌∙◌, ap, subst, sym, add-one, arith, rules, eq-eqb, eqb-true, lt-ltb, ltb-false, ltb-true, ne_eqb, drop_of_length-le, drop-cons, get_or-take}
@@ -25,4 +25,4 @@ pub use Rattle.line.specs.declared.Line.{Line}
 pub use Rattle.soundness.specs.Beside.{beside_by}
 pub use Rattle.soundness.specs.declared.Bounds.{Bounds}
 pub use Rattle.walk.specs.declared.Pace.{Pace}
-pub use Rattle.walk.specs.declared.Walked.{Walked}
+pub use Rattle.walk.specs.declared.Place.{Place}

@@ -1,8 +1,8 @@
 -- Laws of the walk: at the beginning, at each job, at the end.
-use Rattle.std.specs.Prelude.{◌&&◌, ◌+◌, ◌<◌, ◌||◌, ◌∷◌, ◌≡◌, ◌≢◌, ◌≤◌, ◌⊎◌}
-use Rattle.walk.specs.Prelude.{Bool, Bounds, InTurn, Line, Lines, List, Row, Standing, Stands, [], ◌∙◌, add-one, along_stands, along_start, along_step, and-false, and-true, any, any_count, ap, arith, behind, below, beside_by, bit, count_keep, drop, drop-cons, drop_of_length-le, eqb, false, false≢true, front, get_or, get_or-take, holds, idle, inl, inr, le-zero, length, length_lined_le, line, line_below, lined_in_turn, listed_once, live, lt-ltb, ltb, ltb-false, ltb-true, meets, ne_eqb, nobody_before, not, not-false, not_ltb, not-true, refl, row_of, subst, suc, sym, true, true≢false, under, ℕ, ⊎_elim}
+use Rattle.std.specs.Prelude.{None, Some, ◌&&◌, ◌<◌, ◌||◌, ◌∷◌, ◌≡◌, ◌≢◌, ◌⊎◌}
+use Rattle.walk.specs.Prelude.{cond, and_left, eqb-true, eqb-false, Bool, Bounds, InTurn, List, Row, Standing, Stands, [], ◌∙◌, along_stands, along_start, along_step, and-true, any, any_count, ap, arith, behind, below, beside_by, bit, count_keep, eqb, false, false≢true, front, holds, idle, inl, inr, le-zero, length, line, lined_in_turn, listed_once, live, lt-ltb, ltb, ltb-false, ltb-true, meets, ne_eqb, nobody_before, not, not_ltb, refl, row_of, subst, sym, true, true≢false, under, ℕ, ⊎_elim}
 use Rattle.walk.specs.Walk.{Coming, Found, Walking, Walks, walks}
-use Rattle.walk.specs.declared.Walked.{Walked}
+use Rattle.walk.specs.declared.Place.{Place}
 
 -- ---- At the beginning
 
@@ -20,73 +20,61 @@ in_line rows job =
 
 -- the whole line is left
 pub walking_start :
-    (b : Bounds) (rows : List Row) (job : ℕ) (s standing : Standing) (row : Row) → s ≡ front → standing ≡ front → row ≡ idle →
-    Walking b rows job s 0 standing row (line rows)
-walking_start b rows job s standing row first stands rests =
-    rw first
-    (record {
+    (b : Bounds) (rows : List Row) (job : ℕ) → Walking b rows job front 0 (record { standing = front; row = idle }) (line rows)
+walking_start b rows job =
+    record {
       same = refl;
       along = along_start rows;
       sorted = lined_in_turn rows (under (length rows));
-      seeks = inr (record { front = stands; idle = rests; comes = in_line rows job });
-    })
+      seeks = inr (record { front = refl; idle = refl; comes = in_line rows job });
+    }
 
 -- ---- At each job
 
--- a walk whose test fails says nothing more
-untrue :
-    (b : Bounds) (rows : List Row) (job : ℕ) (w : Walked) → walks b rows front 0 (line rows) ≡ false → w.sound ≡ false →
-    Walks b rows job w
-untrue b rows job w fails e = record { told = e ∙ sym fails; found = λ sound. absurd (false≢true (sym e ∙ sound)) }
+-- a walk whose test fails finds nothing
+pub nowhere : (b : Bounds) (rows : List Row) (job : ℕ) → walks b rows front 0 (line rows) ≡ false → Walks b rows job None
+nowhere b rows job fails = record { told = sym fails; found = tt }
 
-module _ {b : Bounds} {rows : List Row} {job : ℕ} {s : Standing} {m : ℕ} {standing : Standing} {row : Row} (k : ℕ) (left : List ℕ)
-    (now : Walking b rows job s m standing row (k ∷ left)) where
+module _ {b : Bounds} {rows : List Row} {job : ℕ} {s : Standing} {m : ℕ} {place : Place} (k : ℕ) (left : List ℕ)
+    (now : Walking b rows job s m place (k ∷ left)) where
   abbrev r : Row
   r = row_of rows k
 
-  -- the turn rises
+  -- the turn rises, and the row is sound beside what stands before it
   abbrev rises : Bool
   rises = ltb m r.turn.0
 
-  -- the row is sound beside what stands before it
   abbrev beside : Bool
   beside = holds (beside_by b.tokens b.time r s.ahead (meets s.claims))
 
   -- where one of these tests fails, the whole test does
-  next_falls : rises ≡ false → walks b rows front 0 (line rows) ≡ false
+  pub walking_fails : (rises && beside) ≡ false → walks b rows front 0 (line rows) ≡ false
   unfolding walks
-  next_falls e = sym now.same ∙ ap (λ (t : Bool). t && beside && walks b rows (behind s r) r.turn.0 left) e
-
-  next_fails : beside ≡ false → walks b rows front 0 (line rows) ≡ false
-  unfolding walks
-  next_fails e =
-      sym now.same
-      ∙ ap (λ (t : Bool). rises && t && walks b rows (behind s r) r.turn.0 left) e
-      ∙ ap (λ (t : Bool). t && walks b rows (behind s r) r.turn.0 left) (and-false rises)
+  walking_fails e = sym now.same ∙ ap (λ (t : Bool). t && walks b rows (behind s r) r.turn.0 left) e
 
   -- where both pass, the rest is left
-  module _ (above : rises ≡ true) (sound : beside ≡ true) where
+  module _ (both : (rises && beside) ≡ true) where
     higher : m < r.turn.0
-    higher = ltb-true m r.turn.0 above
+    higher = ltb-true m r.turn.0 (and_left rises beside both)
 
     onward :
-        (standing' : Standing) (row' : Row) → Found rows job standing' row' ⊎ Coming rows job left standing' row' →
-        Walking b rows job (behind s r) r.turn.0 standing' row' left
+        (place' : Place) → Found rows job place' ⊎ Coming rows job left place' →
+        Walking b rows job (behind s r) r.turn.0 place' left
     unfolding walks InTurn
-    onward standing' row' seeks =
+    onward place' seeks =
         record {
-          same = sym (λ i. above i && sound i && walks b rows (behind s r) r.turn.0 left) ∙ now.same;
+          same = sym (ap (λ (t : Bool). t && walks b rows (behind s r) r.turn.0 left) both) ∙ now.same;
           along = along_step rows s m k left higher now.sorted now.along;
           sorted = now.sorted.1;
           seeks = seeks;
         }
 
     -- a job that is not the one looked for leaves that found, or still to come
-    next_past : k ≢ job → Walking b rows job (behind s r) r.turn.0 standing row left
+    walking_past : k ≢ job → Walking b rows job (behind s r) r.turn.0 place left
     unfolding any
-    next_past other = onward standing row (⊎_elim inl (λ c. inr (still c)) now.seeks)
+    walking_past other = onward place (⊎_elim inl (λ c. inr (still c)) now.seeks)
       where
-        still : Coming rows job (k ∷ left) standing row → Coming rows job left standing row
+        still : Coming rows job (k ∷ left) place → Coming rows job left place
         still c =
             record {
               front = c.front;
@@ -95,9 +83,9 @@ module _ {b : Bounds} {rows : List Row} {job : ℕ} {s : Standing} {m : ℕ} {st
             }
 
     -- the one looked for is found
-    next_finds : k ≡ job → Walking b rows job (behind s r) r.turn.0 s r left
-    next_finds same =
-        onward s r
+    walking_finds : k ≡ job → Walking b rows job (behind s r) r.turn.0 (record { standing = s; row = r }) left
+    walking_finds same =
+        onward (record { standing = s; row = r })
         (inl
         (record {
           stands =
@@ -109,68 +97,23 @@ module _ {b : Bounds} {rows : List Row} {job : ℕ} {s : Standing} {m : ℕ} {st
               (true≢false (sym (lt-ltb 0 r.turn.0 (omega (arith, higher))) ∙ ap (λ (j : ℕ). live (row_of rows j)) same ∙ e));
         }))
 
--- ---- At each place of a line in code
-
-module _ (rows : List Row) (l : Line) (lines : Lines rows l) where
-  -- no line is longer than the rows
-  pub line_short : l.len ≤ length rows
-  line_short = omega (arith, lines.number, length_lined_le rows (length rows))
-
-  module _ (p : ℕ) (inside : p < l.len) where
-    line_entry : get_or (line rows) p 0 ≡ get_or l.jobs p 0
-    line_entry = sym (ap (λ (xs : List ℕ). get_or xs p 0) lines.list) ∙ get_or-take l.len l.jobs p 0 inside
-
-    -- its entries are jobs
-    pub line_job : get_or l.jobs p 0 < length rows
-    line_job = rw (← line_entry) (line_below rows p (omega (arith, lines.number)))
-
-    -- what is left begins with the entry there
-    line_next : drop p (line rows) ≡ get_or l.jobs p 0 ∷ drop (p + 1) (line rows)
-    line_next =
-        rw (add-one p)
-        (drop-cons (line rows) p 0 (omega (arith, lines.number)) ∙ ap (λ (j : ℕ). j ∷ drop (suc p) (line rows)) line_entry)
-
-    module _ {b : Bounds} {job : ℕ} {s : Standing} {m : ℕ} {standing : Standing} {row : Row}
-        (now : Walking b rows job s m standing row (drop p (line rows))) where
-      abbrev k : ℕ
-      k = get_or l.jobs p 0
-
-      abbrev left : List ℕ
-      left = drop (p + 1) (line rows)
-
-      opened : Walking b rows job s m standing row (k ∷ left)
-      opened = subst (Walking b rows job s m standing row) line_next now
-
-      -- t is what code tested, and denied
-      pub walking_falls :
-          (t : Bool) → t ≡ ltb m (row_of rows k).turn.0 → not t ≡ true → (w : Walked) → w.sound ≡ false → Walks b rows job w
-      walking_falls t test fails w = untrue b rows job w (next_falls k left opened (sym test ∙ not-true t fails))
-
-      pub walking_fails :
-          (t : Bool) → t ≡ holds (beside_by b.tokens b.time (row_of rows k) s.ahead (meets s.claims)) → not t ≡ true →
-          (w : Walked) → w.sound ≡ false → Walks b rows job w
-      walking_fails t test fails w = untrue b rows job w (next_fails k left opened (sym test ∙ not-true t fails))
-
-      module _ (t u : Bool) (rises : t ≡ ltb m (row_of rows k).turn.0) (did : not t ≡ false)
-          (beside : u ≡ holds (beside_by b.tokens b.time (row_of rows k) s.ahead (meets s.claims)))
-          (was : not u ≡ false) (after : Standing) (behinds : after ≡ behind s (row_of rows k)) (standing' : Standing) (row' : Row) where
-        pub walking_past :
-            k ≢ job → standing' ≡ standing → row' ≡ row → Walking b rows job after (row_of rows k).turn.0 standing' row' left
-        walking_past other stands same =
-            rw (behinds, stands, same) (next_past k left opened (sym rises ∙ not-false t did) (sym beside ∙ not-false u was) other)
-
-        pub walking_finds :
-            k ≡ job → standing' ≡ s → row' ≡ row_of rows k → Walking b rows job after (row_of rows k).turn.0 standing' row' left
-        walking_finds this stands same =
-            rw (behinds, stands, same) (next_finds k left opened (sym rises ∙ not-false t did) (sym beside ∙ not-false u was) this)
+    -- either way
+    pub walking_on :
+        Walking b rows job (behind s r) r.turn.0 (cond (eqb k job) (record { standing = s; row = r }) place) left
+    walking_on = go (eqb k job) refl
+      where
+        go :
+            (same : Bool) → eqb k job ≡ same →
+            Walking b rows job (behind s r) r.turn.0 (cond same (record { standing = s; row = r }) place) left
+        go true e = walking_finds (eqb-true k job e)
+        go false e = walking_past (eqb-false k job e)
 
 -- ---- At the end
 
 -- a job that has not come is idle
-never_came :
-    (rows : List Row) (job : ℕ) (standing : Standing) (row : Row) → Coming rows job [] standing row → Found rows job standing row
+never_came : (rows : List Row) (job : ℕ) (place : Place) → Coming rows job [] place → Found rows job place
 unfolding any
-never_came rows job standing row c =
+never_came rows job place c =
     let none : (row_of rows job).turn.0 ≡ 0 = le-zero (ltb-false 0 (row_of rows job).turn.0 (sym c.comes)) in
     record {
       stands = rw (none, c.front) (nobody_before rows);
@@ -180,14 +123,12 @@ never_came rows job standing row c =
 
 -- the result of the test is returned, and the job was found, or is idle
 pub walking_end :
-    {b : Bounds} {rows : List Row} {job : ℕ} {s : Standing} {m : ℕ} {standing : Standing} {row : Row} (p : ℕ) →
-    length (line rows) ≤ p → Walking b rows job s m standing row (drop p (line rows)) → (test : Bool) →
-    test ≡ (not (ltb b.last.0 m) && below s.claims b.resources) →
-    Walks b rows job (record { sound = test; standing = standing; row = row })
+    {b : Bounds} {rows : List Row} {job : ℕ} {s : Standing} {m : ℕ} {place : Place} → Walking b rows job s m place [] →
+    (test : Bool) → test ≡ (not (ltb b.last.0 m) && below s.claims b.resources) → Walks b rows job (cond test (Some place) None)
 unfolding walks
-walking_end {b} {rows} {job} {s} {m} {standing} {row} p past now test told =
-    let end = subst (Walking b rows job s m standing row) (drop_of_length-le (line rows) {i = p} past) now in
-    record {
-      told = told ∙ ap (λ (t : Bool). t && below s.claims b.resources) (not_ltb b.last.0 m) ∙ end.same;
-      found = λ _. ⊎_elim (λ f. f) (never_came rows job standing row) end.seeks;
-    }
+walking_end {b} {rows} {job} {s} {m} {place} end test told =
+    go test (told ∙ ap (λ (t : Bool). t && below s.claims b.resources) (not_ltb b.last.0 m) ∙ end.same)
+  where
+    go : (t : Bool) → t ≡ walks b rows front 0 (line rows) → Walks b rows job (cond t (Some place) None)
+    go true e = record { told = e; found = ⊎_elim (λ f. f) (never_came rows job place) end.seeks }
+    go false e = record { told = e; found = tt }

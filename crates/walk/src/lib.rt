@@ -13,107 +13,86 @@ use line::Line;
 use rows::{Row, Standing, Turn, behind, earlier, front, idle};
 use soundness::{Bounds, live_sound};
 
-// Whether the live rows are sound; if so, the row of the job that was looked for and what stands before it. The row of a
-// job that has no request is idle.
+// What a walk finds of the job that was looked for: what stands before it, and its row. The row of a job that has no request
+// is idle.
 #[derive(Clone, Copy)]
-pub struct Walked {
-    pub sound: bool,
+pub struct Place {
     pub standing: Standing,
     pub row: Row,
 }
 
-// How far a walk has come: what stands before the next job, what was found of the job that is looked for, the last turn passed,
-// and whether all rows so far are sound. Where they are not, the rest is never looked at.
+// How far a walk has come over sound rows: what stands before the next job, what was found of the job that is looked for, and
+// the last turn passed.
 #[derive(Clone, Copy)]
 struct Pace {
     s: Standing,
-    standing: Standing,
-    row: Row,
+    place: Place,
     passed: Turn,
-    sound: bool,
-}
-
-// Before the first job.
-fn begun() -> Pace
-    ensures { result ≡ begun }
-{
-    let passed = Turn(0);
-    Pace {
-        s: front(),
-        standing: front(),
-        row: idle(),
-        passed,
-        sound: true,
-    }
 }
 
 // Whether a row may come next in line: its turn is above the last one passed, and it is sound beside what stands before it.
 fn follows(r: Row, last: Turn, s: Standing, b: Bounds) -> bool
     ensures { result ≡ follows r last s b }
 {
-    let turn = r.turn;
-    earlier(last, turn) && live_sound(r, s, b.tokens, b.time)
+    earlier(last, r.turn) && live_sound(r, s, b.tokens, b.time)
 }
 
-// One job further.
-fn further(w: Pace, k: u8, r: Row, b: Bounds, job: u32) -> Pace
-    requires { w.s.ahead < jobs }
-    ensures { result ≡ paced w k r b job }
-{
-    let before = w.s;
-    let last = w.passed;
-    let mut standing = w.standing;
-    let mut row = w.row;
-    let sound = follows(r, last, before, b);
-    let s = behind(before, r);
-    let passed = r.turn;
-    if k as u32 == job {
-        standing = before;
-        row = r;
+impl Pace {
+    // Before the first job.
+    fn begun() -> Pace
+        ensures { result ≡ begun }
+    {
+        Pace {
+            s: front(),
+            place: Place {
+                standing: front(),
+                row: idle(),
+            },
+            passed: Turn(0),
+        }
     }
-    Pace {
-        s,
-        standing,
-        row,
-        passed,
-        sound,
+
+    // One job further, if the job's row may come next.
+    fn further(self, k: u8, r: Row, b: Bounds, job: u32) -> Option<Pace>
+        requires { self.s.ahead < jobs }
+        ensures { result ≡ paced self k r b job }
+    {
+        if !follows(r, self.passed, self.s, b) {
+            return None;
+        }
+        let mut place = self.place;
+        if k as u32 == job {
+            place = Place {
+                standing: self.s,
+                row: r,
+            };
+        }
+        Some(Pace {
+            s: behind(self.s, r),
+            place,
+            passed: r.turn,
+        })
+    }
+
+    // At the end of the line: that no turn is above the last one given, and that all resources are below R, is tested once.
+    fn finished(self, b: Bounds) -> Option<Place>
+        ensures { result ≡ finished self b }
+    {
+        if earlier(b.last, self.passed) | !sets::below(self.s.claims, b.resources) {
+            return None;
+        }
+        Some(self.place)
     }
 }
 
-// At the end of the line: that no turn is above the last one given, and that all resources are below R, is tested once.
-fn finished(w: Pace, b: Bounds) -> Walked
-    ensures { result ≡ finished w b }
-{
-    let s = w.s;
-    let passed = w.passed;
-    let last = b.last;
-    let standing = w.standing;
-    let row = w.row;
-    let sound = w.sound & (!earlier(last, passed) & sets::below(s.claims, b.resources));
-    Walked {
-        sound,
-        standing,
-        row,
-    }
-}
-
-// Goes along the line over lent rows, as far as they are sound.
-pub fn walk_of(rows: &[Row; JOBS], line: Line, b: Bounds, job: u32) -> Walked
-    requires { Lines rows.now line }
+// Goes along the line over lent rows, as far as they are sound. Nothing is found where a live row is not.
+pub fn walk_of(rows: &[Row; JOBS], line: &Line, b: Bounds, job: u32) -> Option<Place>
+    requires { Lines rows.now line.now }
     ensures { Walks b rows.now job result }
 {
-    let jobs = line.jobs;
-    let len = line.len;
-    let mut w = begun();
-    let mut p = 0;
-    while p < len {
-        let k = jobs[p];
-        let r = rows[k as usize];
-        w = further(w, k, r, b, job);
-        if !w.sound {
-            return finished(w, b);
-        }
-        p += 1;
+    let mut w = Pace::begun();
+    for &k in &line.jobs[..line.len] {
+        w = w.further(k, rows[k as usize], b, job)?;
     }
-    finished(w, b)
+    w.finished(b)
 }

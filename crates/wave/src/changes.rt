@@ -285,10 +285,8 @@ fn counts(
 ) -> Out
     ensures { out.failures ≤ result.failures }
 {
-    let rows = before.rows;
-    let was = live_count(rows);
-    let next = after.rows;
-    let is = live_count(next);
+    let was = live_count(&before.rows);
+    let is = live_count(&after.rows);
     let used = tokens_in(before.tokens, was);
     let in_use = tokens_in(after.tokens, is);
     let numbered = value(rt, out, room, number, b'r');

@@ -6,5 +6,5 @@ mod lists;
 mod refusals;
 
 pub use entries::what;
-pub use lists::{at_most, jobs, set};
+pub use lists::{jobs, set};
 pub use refusals::{reason, refused};

@@ -3,14 +3,8 @@ use Rattle.decimal.specs.Prelude.{arith}
 use Rattle.decimal.specs.TextLaws.{length_text_small, length_text_large, length_text_pos, length_text_u64}
 use Rattle.decimal.proofs.len.Goals as goal
 
-pub loop-rest-init : goal.loop-rest-init
-loop-rest-init c = omega arith
-
 pub overflow_add-count : goal.overflow_add-count
 overflow_add-count c = omega (arith, length_text_u64 c.args.n (omega arith), length_text_pos c.loop-rest.rest)
-
-pub loop-rest-smaller : goal.loop-rest-smaller
-loop-rest-smaller c = omega arith
 
 pub loop-rest-preserved : goal.loop-rest-preserved
 loop-rest-preserved c = omega (arith, length_text_large c.loop-rest.rest (omega arith))

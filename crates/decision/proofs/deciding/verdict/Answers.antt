@@ -1,17 +1,13 @@
 -- The verdict on each kind of event is that of its own function.
 use Rattle.std.specs.Prelude.{◌≡◌}
 use Rattle.std.proofs.Common.{subst}
-use Rattle.decision.specs.Prelude.{outcome, sym, tick_of, time_from}
-use Rattle.event.specs.Clock.{moment_of}
-use Rattle.event.specs.declared.clock.Moment.{Moment}
-use Rattle.event.specs.declared.events.Event.{Event}
-use Rattle.request.specs.declared.seen.Seen.{Seen}
+use Rattle.decision.specs.Prelude.{Event, Refusal, Result, Seen, outcome, outcome_of, sym, tick_of, time_from, ℕ}
 use Rattle.decision.specs.Changes.{refusal_cases}
 use Rattle.decision.proofs.deciding.verdict.Goals as goal
 
 -- a verdict on an event
-abbrev Judges : Moment → Seen → Event → Type 0
-Judges r s e = moment_of r ≡ outcome (refusal_cases s e) (time_from s.time (tick_of e))
+abbrev Judges : Result ℕ Refusal → Seen → Event → Type 0
+Judges r s e = outcome_of r ≡ outcome (refusal_cases s e) (time_from s.time (tick_of e))
 
 pub returns-in-Ask : goal.returns-in-Ask
 returns-in-Ask c = subst (Judges c.ask_verdict.result c.args.s) (sym c.in-Ask.is) c.ask_verdict.ensures

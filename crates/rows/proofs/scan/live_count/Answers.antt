@@ -1,30 +1,21 @@
--- The loop's invariant: `n` rows before place `i` are live.
-use Rattle.std.specs.Prelude.{◌-◌}
-use Rattle.std.proofs.Common.{rules}
-use Rattle.rows.specs.Prelude.{arith, passed_all, passed_le, passed_more, passed_none}
-use Rattle.rows.specs.Order.{idle, live}
+-- The chain counts as the library does, which is to count as the definition says.
+use Rattle.std.specs.Prelude.{◌+◌, count_by}
+use Rattle.std.proofs.Common.{◌≡◌, Bool, List, cond, false, refl, rules, true, zero-add, ℕ}
+use Rattle.std.proofs.lemmas.List.Recursion.{is_count_by}
+use Rattle.laws.specs.Bools.{bit}
+unfoldable use Rattle.laws.specs.Lists.{count}
+use Rattle.rows.specs.Order.{live}
+use Rattle.rows.specs.declared.row.Row.{Row}
 use Rattle.rows.proofs.scan.live_count.Goals as goal
 
-pub loop-i-init : goal.loop-i-init
-loop-i-init c = (search rules, passed_none live c.args.rows)
-
-pub counted-n-requires : goal.counted-n-requires
-counted-n-requires c =
-    let a = c.args in
-    let at = c.loop-i in
-    omega (arith, passed_le live a.rows at.i at.n at.invariant.1)
-
-pub loop-i-preserved : goal.loop-i-preserved
-loop-i-preserved c =
-    let a = c.args in
-    let at = c.loop-i in (
-      search rules,
-      rw (c.counted-n.ensures, c.live.ensures)
-          (passed_more live a.rows at.i at.n idle (search rules) at.invariant.1),
-    )
+-- both ways to count agree
+counts : (rows : List Row) → count live rows ≡ count_by live rows
+unfolding count
+counts = is_count_by (count live) live refl (λ r rows. step (live r) (count live rows))
+  where
+    step : (b : Bool) (n : ℕ) → bit b + n ≡ cond b (1 + n) n
+    step true n = refl
+    step false n = zero-add n
 
 pub returns : goal.returns
-returns c =
-    let a = c.args in
-    let at = c.loop-i in
-    passed_all live a.rows at.i at.n (search rules) at.invariant.1
+returns c = rw (counts c.args.rows.now) (search rules)

@@ -1,9 +1,0 @@
--- The loop stays within the word.
-use Rattle.std.specs.Prelude.{◌-◌, ◌≤◌}
-use Rattle.shown.proofs.print.length.Given as goal
-
-abbrev pub invariant-loop-i : goal.invariant-loop-i
-invariant-loop-i l = l.i ≤ 8
-
-abbrev pub decreases-loop-i : goal.decreases-loop-i
-decreases-loop-i l = 8 - l.i
