@@ -1,10 +1,10 @@
 -- The rows of a file taken one by one, and what the tests of loading come to.
 use Rattle.std.specs.Prelude.{◌&&◌, ◌*◌, ◌+◌, ◌<◌, ◌||◌, ◌∷◌, ◌≡◌, ◌≤◌, Err, Ok, Result}
-use Rattle.loading.specs.Prelude.{BitSet, Bool, FileHead, FileRow, List, Refusal, Row, Table, UnsoundTable, [], ◌∙◌, and_assoc, and-true, any, ap, arith, drop, eq-eqb, eqb, false, fine, first, idle, jobs, le-ltb, length, length-replicate, length-set, live, lt-ltb, ltb, ne_eqb, none, not, number_of, outcome, outcome_is, past, refl, refused, refusing, replicate, row_of, set, sound, subst, sym, this, true, ℕ}
-use Rattle.service.specs.File.{ascend, bit_set, file_rows, good, head_in, head_size, known, once, placed, read_cases, row_said, row_size, rows_in, table_in, table_of, table_read, version, wrong_size}
+use Rattle.loading.specs.Prelude.{BitSet, Bool, FileHead, FileRow, List, Refusal, Row, Table, UnsoundTable, [], ◌∙◌, and_assoc, and-true, any, ap, arith, drop, eq-eqb, eqb, false, fine, first, idle, jobs, le-ltb, length, length-replicate, length-set, live, lt-ltb, ltb, ne_eqb, none, not, number_of, outcome, outcome_is, outcome_of, past, refl, refused, refusing, replicate, row_of, set, sound, subst, sym, this, true, ℕ}
+use Rattle.service.specs.File.{ascend, bit_set, file_rows, good, head_in, head_size, known, once, placed, row_said, row_size, rows_in, table_in, table_of, table_read, version, wrong_size}
 use Rattle.service.specs.Placing.{JobsBelow, fits, free}
 use Rattle.service.specs.PlacingLaws.{fits_all}
-use Rattle.loading.specs.Taking.{Taking, outcome_of, rows_taken, stray}
+use Rattle.loading.specs.Taking.{Taking, rows_taken, stray}
 
 -- ---- Row by row
 

@@ -12,7 +12,7 @@ pub use Rattle.laws.specs.Chains.{none, past, this}
 unfoldable pub use Rattle.laws.specs.Front.{over}
 unfoldable pub use Rattle.laws.specs.Lists.{any}
 pub use Rattle.event.specs.Limits.{jobs}
-pub use Rattle.event.specs.Refusals.{number_of, refusing}
+pub use Rattle.event.specs.Refusals.{number_of, outcome_of, refusing}
 pub use Rattle.event.specs.declared.refusal.Refusal.{Refusal}
 pub use Rattle.event.specs.declared.refusal.Refusal.TheVariants.{BitSet, UnsoundTable}
 pub use Rattle.rows.specs.Line.{row_of}

@@ -1,21 +1,15 @@
 -- What taking the rows of a file comes to, and what holds on the way.
-use Rattle.std.specs.Prelude.{ℕ, Bool, not, ◌&&◌, List, [], ◌∷◌, map, ◌≡◌, ltb, length, replicate, Result, Ok, Err}
+use Rattle.std.specs.Prelude.{ℕ, Bool, not, ◌&&◌, List, [], ◌∷◌, map, ◌≡◌, ltb, length, replicate}
 use Rattle.event.specs.Limits.{jobs}
-use Rattle.event.specs.Refusals.{number_of, refusing}
-use Rattle.event.specs.declared.refusal.Refusal.{Refusal}
+use Rattle.event.specs.Refusals.{refusing}
 use Rattle.event.specs.declared.refusal.Refusal.TheVariants.{BitSet, UnsoundTable}
 use Rattle.service.specs.File.{ascend, once, placed}
 use Rattle.service.specs.Placing.{fits}
 use Rattle.service.specs.declared.format.FileRow.{FileRow}
-use Rattle.laws.specs.Cases.{Case, Outcome, fine, outcome, refused}
+use Rattle.laws.specs.Cases.{Case, Outcome, outcome}
 use Rattle.laws.specs.Lists.{any}
 use Rattle.rows.specs.Order.{idle}
 use Rattle.rows.specs.declared.row.Row.{Row}
-
--- a refusal by its number
-abbrev pub outcome_of : {A : Type 0} → Result A Refusal → Outcome A
-outcome_of (Err r) = refused (number_of r)
-outcome_of (Ok a) = fine a
 
 -- a bit of a row that must be 0 is 1
 abbrev pub stray : List FileRow → Bool

@@ -3,39 +3,25 @@
 
 ghost use Rattle.std.specs.Prelude.{◌+◌, ◌*◌, ◌≤◌, ◌≡◌, drop, length};
 ghost use Rattle.arbiter.specs.Sound.{sound};
+ghost use Rattle.event.specs.Refusals.{outcome_of};
 ghost use Rattle.fields.specs.Fields.{Fit};
-ghost use Rattle.arbiter.specs.Meaning.{no_table};
 ghost use Rattle.service.specs.File.{head_order, head_size, head_widths, row_said, row_size, rows_in, table_of, table_read};
 ghost use Rattle.service.specs.Promises.{ReadRow};
 ghost use Rattle.loading.specs.Promises.{Loaded};
-ghost use Rattle.loading.specs.Taking.{outcome_of, rows_taken};
+ghost use Rattle.loading.specs.Taking.{rows_taken};
 
-use arbiter::{Next, Table, bounds};
+use arbiter::{Next, Table};
 use decision::Answer;
 use event::{JOBS, Refusal};
 use pass::survey;
 use rows::{Row, Turn, earlier, idle, live};
 use service::{FileHead, FileRow, HEAD, ROW, VERSION, head_in, row_in};
 
-// The all-zero table.
-fn no_table() -> Table
-    ensures { result ≡ no_table }
-{
-    Table {
-        tokens: 0,
-        resources: 0,
-        limit: 0,
-        time: 0,
-        last: Turn(0),
-        rows: [idle(); JOBS],
-    }
-}
-
 // Whether a table is sound.
 fn is_sound(t: &Table) -> bool
     ensures { result ≡ sound t.now }
 {
-    survey(t.rows, bounds(*t), 0).seen.sound
+    survey(&t.rows, t.bounds(), 0).seen.sound
 }
 
 // The row that a row of a file describes.
@@ -134,12 +120,9 @@ pub fn load(file: &[u8]) -> Next
 {
     match table_in(file) {
         Ok(table) => Next {
-            answer: Answer::Done,
+            answer: Ok(Answer::Done),
             table,
         },
-        Err(refusal) => Next {
-            answer: Answer::No(refusal),
-            table: no_table(),
-        },
+        Err(refusal) => Next::refused(Table::zero(), refusal),
     }
 }

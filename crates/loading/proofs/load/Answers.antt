@@ -1,7 +1,6 @@
 -- A load answers and hands back what the bytes are read as.
-use Rattle.loading.specs.Prelude.{ap, number_of, sym, ◌∙◌}
+use Rattle.loading.specs.Prelude.{ap, number_of, outcome_of, sym, ◌∙◌}
 use Rattle.loading.specs.ReadBack.{load_reads, load_refuses}
-use Rattle.loading.specs.Taking.{outcome_of}
 use Rattle.loading.proofs.load.Goals as goal
 
 pub returns-in-Ok : goal.returns-in-Ok
@@ -12,4 +11,4 @@ returns-in-Ok c =
 pub returns-in-Err : goal.returns-in-Err
 returns-in-Err c =
     let read = load_refuses c.args.file.now (number_of c.in-Err.refusal) (sym (ap outcome_of (sym c.in-Err.is) ∙ c.table_in.ensures)) in
-    record { says = sym read.0; hands = c.no_table.ensures ∙ sym read.1 }
+    rw (c.refused.ensures, c.zero.ensures) (record { says = sym read.0; hands = sym read.1 })

@@ -2,7 +2,7 @@
 -- they are made differs.
 use Rattle.std.specs.Prelude.{◌≡◌}
 use Rattle.std.proofs.lemmas.Grind.{common_steps}
-use Rattle.loading.specs.Prelude.{List, ap, arith, false, le-ltb, lt-ltb, not, outcome_is, past, refl, sym, this, true, ℕ, ◌∙◌}
+use Rattle.loading.specs.Prelude.{ap, arith, false, le-ltb, lt-ltb, not, outcome_is, past, refl, sym, this, true, ◌∙◌}
 use Rattle.service.specs.File.{head_in, known, table_in, table_read, wrong_size}
 use Rattle.loading.specs.LoadingLaws.{is_known, right_size, rows_refused, stray_head, table_loaded, table_refused, too_short, unknown, wrong_size_lem}
 use Rattle.loading.proofs.table_in.Goals as goal

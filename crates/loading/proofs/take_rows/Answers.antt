@@ -1,6 +1,6 @@
 -- The loop keeps that what was taken and what is left come to what all rows of the file do.
 use Rattle.std.specs.Prelude.{◌*◌, ◌+◌, ◌-◌, ◌∷◌, ◌≡◌}
-use Rattle.loading.specs.Prelude.{FileRow, List, [], ap, arith, drop, le-ltb, lt-ltb, not, subst, sym, ◌∙◌, ℕ}
+use Rattle.loading.specs.Prelude.{FileRow, List, [], ap, arith, drop, le-ltb, lt-ltb, subst, sym, ◌∙◌, ℕ}
 use Rattle.service.specs.File.{head_size, row_size, rows_in}
 use Rattle.service.specs.PlacingLaws.{rows_jobs, rows_left}
 use Rattle.loading.specs.LoadingLaws.{taking_fit, taking_next, taking_stray, taking_unfit}
