@@ -88,7 +88,7 @@ fn table_of(head: FileHead, rows: [Row; JOBS]) -> Table
 }
 
 // The table whose file these bytes are.
-fn table_in(file: &[u8]) -> Result<Table, Refusal>
+pub fn table_in(file: &[u8]) -> Result<Table, Refusal>
     ensures { outcome_of result ≡ table_read file.now }
 {
     if file.len() < HEAD {
