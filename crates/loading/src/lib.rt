@@ -107,11 +107,10 @@ pub fn table_in(file: &[u8]) -> Result<Table, Refusal>
     }
     let rows = take_rows(file, count)?;
     let table = table_of(head, rows);
-    if is_sound(&table) {
-        Ok(table)
-    } else {
-        Err(Refusal::UnsoundTable)
+    if !is_sound(&table) {
+        return Err(Refusal::UnsoundTable);
     }
+    Ok(table)
 }
 
 // Loads the table whose file these bytes are; a refused load hands back the all-zero table.

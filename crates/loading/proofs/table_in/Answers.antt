@@ -46,14 +46,14 @@ returns-in_err-rows c =
     let told = refuses c.in_err-rows.field-0.0 c.in_err-rows.was in
     grind (arith, common_steps, told)
 
-pub returns-then-is_sound : goal.returns-then-is_sound
-returns-then-is_sound c =
-    let at = (goal.at.returns-then-is_sound c).Else-file-count in
-    table_loaded c.args.file.now _ c.head_in-head.ensures.is (sized at) (one at) (le-ltb 0 c.head_in-head.result.zero (omega arith)) c.take_rows.result c.take_rows.ensures
-    c.in_ok-rows.rows c.in_ok-rows.was c.table_of-table.result c.table_of-table.ensures (sym c.is_sound.ensures ∙ c.if-is_sound.true)
-
-pub returns-else-is_sound : goal.returns-else-is_sound
-returns-else-is_sound c =
-    let at = (goal.at.returns-else-is_sound c).Else-file-count in
+pub returns-then-not-is_sound : goal.returns-then-not-is_sound
+returns-then-not-is_sound c =
+    let at = (goal.at.returns-then-not-is_sound c).Else-file-count in
     table_refused c.args.file.now _ c.head_in-head.ensures.is (sized at) (one at) (le-ltb 0 c.head_in-head.result.zero (omega arith)) c.take_rows.result c.take_rows.ensures
-    c.in_ok-rows.rows c.in_ok-rows.was c.table_of-table.result c.table_of-table.ensures (sym c.is_sound.ensures ∙ c.if-is_sound.false)
+    c.in_ok-rows.rows c.in_ok-rows.was c.table_of-table.result c.table_of-table.ensures (sym c.is_sound.ensures ∙ c.if-not-is_sound.true)
+
+pub returns : goal.returns
+returns c =
+    let at = (goal.at.returns c).Else-file-count in
+    table_loaded c.args.file.now _ c.head_in-head.ensures.is (sized at) (one at) (le-ltb 0 c.head_in-head.result.zero (omega arith)) c.take_rows.result c.take_rows.ensures
+    c.in_ok-rows.rows c.in_ok-rows.was c.table_of-table.result c.table_of-table.ensures (sym c.is_sound.ensures ∙ c.if-not-is_sound.false)
