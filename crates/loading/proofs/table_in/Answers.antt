@@ -29,10 +29,10 @@ returns-then-file-count c =
 
 -- past the third test: size and version are right
 sized : (c : Else-file-count) → wrong_size c.args.file.now ≡ false
-sized c = right_size c.args.file.now _ c.head_in-head.ensures.is c.if-file-lt-HEAD.false c.if-head-ne-VERSION.false c.if-file-count.false
+sized c = right_size c.args.file.now _ c.head_in-head.ensures.is c.if-file-lt-HEAD.false (omega arith) c.if-file-count.false
 
 one : (c : Else-file-count) → known c.args.file.now ≡ true
-one c = is_known c.args.file.now _ c.head_in-head.ensures.is c.if-file-lt-HEAD.false c.if-head-ne-VERSION.false
+one c = is_known c.args.file.now _ c.head_in-head.ensures.is c.if-file-lt-HEAD.false (omega arith)
 
 pub returns-then-head-gt0 : goal.returns-then-head-gt0
 returns-then-head-gt0 c =
