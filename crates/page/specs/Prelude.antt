@@ -19,7 +19,6 @@ pub use Rattle.rows.specs.declared.row.Row.{Row}
 pub use Rattle.line.specs.LineInCode.{Lines}
 pub use Rattle.soundness.specs.declared.Bounds.{Bounds}
 pub use Rattle.pass.specs.Pass.{Surveyed}
-pub use Rattle.sweep.proofs.Jobs.{job_below, job_here, line_fits}
 pub use Rattle.arbiter.specs.Bounded.{bounds_of}
 pub use Rattle.arbiter.specs.ChangeLaws.{sound_by_lem}
 pub use Rattle.arbiter.specs.Sound.{sound}

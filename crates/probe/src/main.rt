@@ -5,7 +5,7 @@
 ghost use Rattle.std.specs.Prelude.{◌≤◌};
 
 use arbiter::Table;
-use cases::{Asked, CASE, Call, Case};
+use cases::{CASE, Call, Case};
 use shown::CUT;
 use stream::Printer;
 
@@ -25,8 +25,8 @@ fn whole(printer: &mut Printer<impl Print + Eprint>, number: u64, bytes: &[u8; C
     ensures { printer.old.failures ≤ printer.new.failures }
 {
     let case = cases::case_of(bytes);
-    let Asked::For(call) = cases::call_numbered(case.call) else {
-        shown::word(printer, CUT);
+    let Some(call) = cases::call_numbered(case.call) else {
+        printer.text(CUT);
         return false;
     };
     printer.number(number);
@@ -43,7 +43,7 @@ fn turn(rt: &(impl Input + Eprint), printer: &mut Printer<impl Print + Eprint>, 
         Ok(CASE) => whole(printer, number, &bytes),
         Ok(0) | Err(_) => false,
         Ok(_) => {
-            shown::word(printer, CUT);
+            printer.text(CUT);
             false
         }
     }

@@ -4,5 +4,5 @@
 mod print;
 mod tables;
 
-pub use print::{CUT, word};
+pub use print::CUT;
 pub use tables::show;

@@ -3,41 +3,24 @@ ghost use Rattle.std.specs.Prelude.{◌≤◌};
 
 use crate::print;
 use arbiter::Table;
-use called::{FIVE, Left, Line, Marks, Part, Word};
+use called::{Left, Part};
 use event::JOBS;
 use rows::Row;
 use stream::Printer;
-
-// The word that begins the line of a table.
-const TABLE: Word = *b"\ntable\0\0";
-
-// What ends a case.
-const END: Word = *b"\n\0\0\0\0\0\0\0";
-
-// What stands before a row.
-const NOTHING: Word = *b"\0\0\0\0\0\0\0\0";
-
-// The marks of a row's numbers, its job among them.
-const ROW: Marks = *b" :,,,,";
 
 // Whether the numbers of a row are all 0.
 fn blank(row: &Row) -> bool {
     row.turn.0 | row.declared | row.held | row.asked | row.since == 0
 }
 
-// The numbers of a job's row.
-fn numbers(job: u64, row: &Row) -> Line {
-    Line {
-        word: NOTHING,
-        marks: ROW,
-        numbers: [
-            job,
-            row.turn.0,
-            row.declared,
-            row.held,
-            row.asked,
-            row.since,
-        ],
+// A job and the numbers of its row.
+fn show_row(printer: &mut Printer<impl Print + Eprint>, job: u64, row: &Row)
+    ensures { printer.old.failures ≤ printer.new.failures }
+{
+    printer.word(b" ", job);
+    printer.word(b":", row.turn.0);
+    for number in [row.declared, row.held, row.asked, row.since] {
+        printer.word(b",", number);
     }
 }
 
@@ -47,32 +30,28 @@ fn rows(printer: &mut Printer<impl Print + Eprint>, rows: &[Row; JOBS])
 {
     for (job, row) in rows.iter().enumerate() {
         if !blank(row) {
-            print::line(printer, numbers(job as u64, row));
+            show_row(printer, job as u64, row);
         }
     }
 }
 
 // The beginning of a table's line: the numbers before the rows.
-fn head(table: &Table) -> Line {
-    Line {
-        word: TABLE,
-        marks: FIVE,
-        numbers: [
-            table.tokens as u64,
-            table.resources as u64,
-            table.limit as u64,
-            table.time,
-            table.last.0,
-            0,
-        ],
-    }
+fn head(printer: &mut Printer<impl Print + Eprint>, table: &Table)
+    ensures { printer.old.failures ≤ printer.new.failures }
+{
+    printer.text(b"\ntable");
+    printer.word(b" ", table.tokens as u64);
+    printer.word(b" ", table.resources as u64);
+    printer.word(b" ", table.limit as u64);
+    printer.word(b" ", table.time);
+    printer.word(b" ", table.last.0);
 }
 
 // The line of a table.
 fn table(printer: &mut Printer<impl Print + Eprint>, table: &Table)
     ensures { printer.old.failures ≤ printer.new.failures }
 {
-    print::line(printer, head(table));
+    head(printer, table);
     rows(printer, &table.rows);
 }
 
@@ -91,8 +70,8 @@ fn show_part(printer: &mut Printer<impl Print + Eprint>, part: Part, list: &[u8]
 pub fn show(printer: &mut Printer<impl Print + Eprint>, left: &Left, list: &[u8])
     ensures { printer.old.failures ≤ printer.new.failures }
 {
-    print::line(printer, left.line);
+    print::line(printer, &left.line);
     show_part(printer, left.then, list, &left.table);
     show_part(printer, left.last, list, &left.table);
-    print::word(printer, END);
+    printer.text(b"\n");
 }

@@ -1,5 +1,5 @@
-// Standard input and standard output of the programs. Bytes come in whole pieces; text and numbers go out through a
-// room that the program lends, so that the system is called once for many of them.
+// Standard input and standard output of the programs. Bytes come in whole pieces; text and numbers go out through the room of
+// a printer, so that the system is called once for many of them.
 #![tactic(auto)]
 
 mod input;

@@ -9,14 +9,13 @@ use std::io::ErrorKind;
 // How many bytes can wait.
 const ROOM: usize = 65536;
 
-// Standard output, and the room in which bytes wait, so that the system is called once for many of them.
+// Standard output, with a room at whose front `at` bytes wait, so that the system is called once for many of them; and how many
+// writes failed: after the first nothing is written any more.
 #[derive(Drop)]
 pub struct Printer<'a, R> {
     rt: &'a R,
     room: [u8; ROOM],
-    // how many bytes wait at the front of the room
     at: usize,
-    // how many writes failed: after the first nothing is written any more
     pub failures: u32,
     ghost fits: { at ≤ ROOM },
 }
