@@ -5,8 +5,7 @@
 ghost use Rattle.std.specs.Prelude.{◌≤◌};
 
 use arbiter::Table;
-use cases::{Asked, CASE, Call, Case};
-use shown::CUT;
+use cases::{CASE, Call, Case};
 use stream::Printer;
 
 // Makes a call and prints what it leaves. The longest list that a case can lend is one shorter than the array.
@@ -25,8 +24,8 @@ fn whole(printer: &mut Printer<impl Print + Eprint>, number: u64, bytes: &[u8; C
     ensures { printer.old.failures ≤ printer.new.failures }
 {
     let case = cases::case_of(bytes);
-    let Asked::For(call) = cases::call_numbered(case.call) else {
-        shown::word(printer, CUT);
+    let Some(call) = cases::call_numbered(case.call) else {
+        printer.text(b"cut\n");
         return false;
     };
     printer.number(number);
@@ -43,7 +42,7 @@ fn turn(rt: &(impl Input + Eprint), printer: &mut Printer<impl Print + Eprint>, 
         Ok(CASE) => whole(printer, number, &bytes),
         Ok(0) | Err(_) => false,
         Ok(_) => {
-            shown::word(printer, CUT);
+            printer.text(b"cut\n");
             false
         }
     }

@@ -4,5 +4,4 @@
 mod print;
 mod tables;
 
-pub use print::{CUT, word};
-pub use tables::show;
+pub use print::show;

@@ -1,40 +1,46 @@
-// Words, lines and lists, printed.
+// All that a call leaves, printed.
 ghost use Rattle.std.specs.Prelude.{◌≤◌};
 
-use called::{LETTERS, Line, Word};
+use crate::tables;
+use arbiter::Table;
+use called::{Left, Line, Part};
 use stream::Printer;
 
-// The word that begins the line of a list.
-const LIST: Word = *b"\nlist\0\0\0";
-
-// What is said of input that is cut.
-pub const CUT: Word = *b"cut\n\0\0\0\0";
-
-// A word: its letters up to the first zero.
-pub fn word(printer: &mut Printer<impl Print + Eprint>, word: Word)
+// A line without its end: the word, and the numbers that it has, a blank before each.
+fn line(printer: &mut Printer<impl Print + Eprint>, line: &Line)
     ensures { printer.old.failures ≤ printer.new.failures }
 {
-    let length = word.iter().position(|letter| *letter == 0);
-    printer.text(&word[..length.unwrap_or(LETTERS)]);
-}
-
-// A line without its end: the word, and the numbers that have marks.
-pub fn line(printer: &mut Printer<impl Print + Eprint>, line: Line)
-    ensures { printer.old.failures ≤ printer.new.failures }
-{
-    word(printer, line.word);
-    for (mark, number) in line.marks.iter().zip(line.numbers) {
-        if *mark == 0 {
-            break;
-        }
-        printer.word(&[*mark], number);
+    printer.text(line.word.text());
+    for number in line.numbers.iter().flatten() {
+        printer.word(b" ", *number);
     }
 }
 
 // The line of a lent list, without its end.
-pub fn list(printer: &mut Printer<impl Print + Eprint>, list: &[u8])
+fn list(printer: &mut Printer<impl Print + Eprint>, list: &[u8])
     ensures { printer.old.failures ≤ printer.new.failures }
 {
-    word(printer, LIST);
+    printer.text(b"\nlist");
     printer.bytes(list);
+}
+
+// A part of what a call leaves.
+fn part(printer: &mut Printer<impl Print + Eprint>, part: Part, lent: &[u8], after: &Table)
+    ensures { printer.old.failures ≤ printer.new.failures }
+{
+    match part {
+        Part::Nothing => {}
+        Part::List => list(printer, lent),
+        Part::Table => tables::table(printer, after),
+    }
+}
+
+// All that a call leaves, after the number of its case.
+pub fn show(printer: &mut Printer<impl Print + Eprint>, left: &Left, list: &[u8])
+    ensures { printer.old.failures ≤ printer.new.failures }
+{
+    line(printer, &left.line);
+    part(printer, left.then, list, &left.table);
+    part(printer, left.last, list, &left.table);
+    printer.text(b"\n");
 }
