@@ -1,4 +1,3 @@
 -- What the contracts of this crate say.
 pub mod Left
 pub mod Lines
-pub mod Prelude

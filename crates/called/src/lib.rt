@@ -4,5 +4,5 @@
 mod lines;
 mod made;
 
-pub use lines::{FIVE, LETTERS, Line, Marks, NUMBERS, Word};
+pub use lines::{Line, NUMBERS, Word};
 pub use made::{Left, Part, left_by};

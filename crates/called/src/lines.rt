@@ -1,81 +1,74 @@
-// The lines of what calls say: a word, and numbers, each after its mark.
+// The lines of what calls say: a word, and numbers, a blank before each.
 ghost use Rattle.std.specs.Prelude.{[], ◌∷◌, ◌≡◌};
-ghost use Rattle.arbiter.specs.Answers.{late_of, report_of, said_of};
-ghost use Rattle.event.specs.Refusals.{number_of};
-ghost use Rattle.laws.specs.Bools.{bit};
-ghost use Rattle.writing.specs.Meaning.{writing_of};
-ghost use Rattle.called.specs.Lines.{answer_line, late_line, refusal_line, report_line, request_line, worded, writing_line};
+ghost use Rattle.arbiter.specs.Answers.{said_of};
+ghost use Rattle.decimal.specs.Text.{ascii};
+ghost use Rattle.event.specs.Refusals.{number_of, outcome_of};
+ghost use Rattle.called.specs.Lines.{answer_line, late_line, refusal_line, report_line, request_line, says, text_of, writing_line};
 
-use arbiter::{Late, Report, Reported};
+use arbiter::Report;
 use decision::Answer;
 use event::Refusal;
-use writing::Writing;
-
-// How many letters a word has at most.
-pub const LETTERS: usize = 8;
-
-// A word: its letters, and zeros after them.
-pub type Word = [u8; LETTERS];
 
 // The words of answers. Each stands after a case's number.
-const NO: Word = *b" no\0\0\0\0\0";
+#[derive(Clone, Copy, Debug, PartialEq, Eq)]
+pub enum Word {
+    No,
+    Token,
+    Granted,
+    Wait,
+    Done,
+    Woke,
+    Overdue,
+    Wrote,
+    Report,
+}
 
-const TOKEN: Word = *b" token\0\0";
-
-const GRANTED: Word = *b" granted";
-
-const WAIT: Word = *b" wait\0\0\0";
-
-const DONE: Word = *b" done\0\0\0";
-
-const WOKE: Word = *b" woke\0\0\0";
-
-const OVERDUE: Word = *b" overdue";
-
-const WROTE: Word = *b" wrote\0\0";
-
-const REPORT: Word = *b" report\0";
+impl Word {
+    // A word as it is printed.
+    pub fn text(self) -> &'static [u8]
+        ensures { result.now ≡ ascii (text_of self) }
+    {
+        match self {
+            Word::No => b" no",
+            Word::Token => b" token",
+            Word::Granted => b" granted",
+            Word::Wait => b" wait",
+            Word::Done => b" done",
+            Word::Woke => b" woke",
+            Word::Overdue => b" overdue",
+            Word::Wrote => b" wrote",
+            Word::Report => b" report",
+        }
+    }
+}
 
 // How many numbers a line has at most.
-pub const NUMBERS: usize = 6;
+pub const NUMBERS: usize = 5;
 
-// What stands before each number of a line, and zeros where there is no number.
-pub type Marks = [u8; NUMBERS];
-
-// The marks of lines with no number, with one and with five.
-const NONE: Marks = *b"\0\0\0\0\0\0";
-
-const ONE: Marks = *b" \0\0\0\0\0";
-
-pub const FIVE: Marks = *b"     \0";
-
-// A line: its word, and its numbers with their marks.
-#[derive(Clone, Copy)]
+// A line: its word, and the numbers that it has.
+#[derive(Clone, Copy, Debug, PartialEq, Eq)]
 pub struct Line {
     pub word: Word,
-    pub marks: Marks,
-    pub numbers: [u64; NUMBERS],
+    pub numbers: [Option<u64>; NUMBERS],
 }
 
 // The line of a word alone.
 fn plain(word: Word) -> Line
-    ensures { result ≡ worded word [] }
+    ensures { result ≡ says word [] }
 {
     Line {
         word,
-        marks: NONE,
-        numbers: [0; NUMBERS],
+        numbers: [None; NUMBERS],
     }
 }
 
 // The line of a word and a number.
 fn counted(word: Word, n: u32) -> Line
-    ensures { result ≡ worded word (n ∷ []) }
+    ensures { result ≡ says word (n ∷ []) }
 {
     Line {
         word,
-        marks: ONE,
-        numbers: [n as u64, 0, 0, 0, 0, 0],
+        numbers: [Some(n as u64), None, None, None, None],
     }
 }
 
@@ -83,77 +76,65 @@ fn counted(word: Word, n: u32) -> Line
 fn no(refusal: Refusal) -> Line
     ensures { result ≡ refusal_line (number_of refusal) }
 {
-    counted(NO, event::number(refusal))
+    counted(Word::No, u32::from(refusal))
 }
 
 // The line of an event's or a start's answer.
-pub fn answer(answer: Answer) -> Line
+pub fn answer(answer: Result<Answer, Refusal>) -> Line
     ensures { result ≡ answer_line (said_of answer) }
 {
     match answer {
-        Answer::No(refusal) => no(refusal),
-        Answer::Token => plain(TOKEN),
-        Answer::Granted => plain(GRANTED),
-        Answer::Wait => plain(WAIT),
-        Answer::Done => plain(DONE),
-        Answer::Woke(count) => counted(WOKE, count),
+        Err(refusal) => no(refusal),
+        Ok(Answer::Token) => plain(Word::Token),
+        Ok(Answer::Granted) => plain(Word::Granted),
+        Ok(Answer::Wait) => plain(Word::Wait),
+        Ok(Answer::Done) => plain(Word::Done),
+        Ok(Answer::Woke(count)) => counted(Word::Woke, count),
     }
 }
 
 // The line of how many are overdue.
-pub fn late(late: Late) -> Line
-    ensures { result ≡ late_line (late_of late) }
+pub fn late(late: Result<u32, Refusal>) -> Line
+    ensures { result ≡ late_line (outcome_of late) }
 {
     match late {
-        Late::No(refusal) => no(refusal),
-        Late::Count(count) => counted(OVERDUE, count),
+        Err(refusal) => no(refusal),
+        Ok(count) => counted(Word::Overdue, count),
     }
 }
 
 // The line of what writing gave.
-pub fn writing(writing: Writing) -> Line
-    ensures { result ≡ writing_line (writing_of writing) }
+pub fn writing(written: Result<(), Refusal>) -> Line
+    ensures { result ≡ writing_line (outcome_of written) }
 {
-    match writing {
-        Writing::No(refusal) => no(refusal),
-        Writing::Done => plain(WROTE),
+    match written {
+        Err(refusal) => no(refusal),
+        Ok(()) => plain(Word::Wrote),
     }
-}
-
-// 1 for true, 0 for false.
-fn bit(b: bool) -> u64
-    ensures { result ≡ bit b }
-{
-    if b { 1 } else { 0 }
 }
 
 // The line of a request that is reported.
 fn request(report: Report) -> Line
     ensures { result ≡ request_line report }
 {
-    let turn = report.turn;
-    let token = bit(report.token);
-    let waiting = bit(report.waiting);
     Line {
-        word: REPORT,
-        marks: FIVE,
+        word: Word::Report,
         numbers: [
-            turn.0,
-            token,
-            waiting,
-            report.ahead as u64,
-            report.in_way as u64,
-            0,
+            Some(report.turn.0),
+            Some(report.token as u64),
+            Some(report.waiting as u64),
+            Some(report.ahead as u64),
+            Some(report.in_way as u64),
         ],
     }
 }
 
 // The line of a report.
-pub fn reported(reported: Reported) -> Line
-    ensures { result ≡ report_line (report_of reported) }
+pub fn reported(reported: Result<Report, Refusal>) -> Line
+    ensures { result ≡ report_line (outcome_of reported) }
 {
     match reported {
-        Reported::No(refusal) => no(refusal),
-        Reported::Is(report) => request(report),
+        Err(refusal) => no(refusal),
+        Ok(report) => request(report),
     }
 }

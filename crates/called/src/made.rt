@@ -1,7 +1,7 @@
 // Each call, made with what its case hands to it, and what it leaves.
 ghost use Rattle.std.specs.Prelude.{◌≡◌};
 ghost use Rattle.arbiter.specs.Answers.{said_of};
-ghost use Rattle.writing.specs.Meaning.{writing_of};
+ghost use Rattle.event.specs.Refusals.{outcome_of};
 ghost use Rattle.called.specs.Left.{left, list_after, list_of, start_left, tabled, untabled};
 ghost use Rattle.called.specs.Lines.{answer_line, writing_line};
 
@@ -9,8 +9,7 @@ use crate::lines;
 use crate::lines::Line;
 use arbiter::{Next, Table};
 use cases::{Call, Case};
-use event::{Entry, Kind, Tick};
-use writing::Writing;
+use event::{Entry, Kind, Refusal, Tick};
 
 // What is shown after the line of what a call says.
 #[derive(Clone, Copy)]
@@ -33,8 +32,7 @@ pub struct Left {
 fn listed(kind: Kind) -> Part
     ensures { result ≡ list_of kind }
 {
-    let shape = event::shape_of(kind);
-    if shape.wakes {
+    if kind.shape().wakes {
         Part::List
     } else {
         Part::Nothing
@@ -57,9 +55,7 @@ fn tabled(line: Line, then: Part, table: Table) -> Left
 fn next_left(next: Next, then: Part) -> Left
     ensures { result ≡ tabled (answer_line (said_of next.answer)) then next.table }
 {
-    let answer = next.answer;
-    let table = next.table;
-    tabled(lines::answer(answer), then, table)
+    tabled(lines::answer(next.answer), then, next.table)
 }
 
 // What a start with the numbers of the table leaves.
@@ -71,11 +67,11 @@ fn start_left(tick: Tick, table: Table) -> Left
 }
 
 // What the writing of an entry leaves.
-fn write_left(writing: Writing, table: Table) -> Left
-    ensures { result ≡ untabled (writing_line (writing_of writing)) table }
+fn write_left(written: Result<(), Refusal>, table: Table) -> Left
+    ensures { result ≡ untabled (writing_line (outcome_of written)) table }
 {
     Left {
-        line: lines::writing(writing),
+        line: lines::writing(written),
         then: Part::List,
         last: Part::Nothing,
         table,
@@ -87,28 +83,27 @@ pub fn left_by(case: Case, call: Call, table: Table, list: &mut [u8]) -> Left
     ensures value { result ≡ left case table list.old call }
     ensures list_after { list.new ≡ list_after case table list.old call }
 {
-    let tick = case.tick;
     match call {
         Call::Event(kind) => {
             next_left(table.apply(cases::event_in(case, kind), list), listed(kind))
         },
         Call::Report => tabled(
-            lines::reported(asking::report(table, case.job)),
+            lines::reported(asking::report(&table, case.job)),
             Part::Nothing,
             table,
         ),
         Call::Overdue => tabled(
-            lines::late(asking::overdue(table, tick, list)),
+            lines::late(asking::overdue(&table, case.tick, list)),
             Part::List,
             table,
         ),
-        Call::Start => start_left(tick, table),
+        Call::Start => start_left(case.tick, table),
         Call::Write(kind) => write_left(
             writing::write(Entry::Event(cases::event_in(case, kind)), list),
             table,
         ),
         Call::WriteStart => write_left(
-            writing::write(Entry::Start(cases::start_in(case, table)), list),
+            writing::write(Entry::Start(cases::start_in(case, &table)), list),
             table,
         ),
     }

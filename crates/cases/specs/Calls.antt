@@ -1,41 +1,34 @@
 -- The calls by their numbers, and what is handed to them.
-use Rattle.std.specs.Prelude.{ℕ, zero, suc, ◌+◌, ◌-◌, ◌*◌, ◌%◌, cond, List, [], ◌∷◌, ◌++◌, eqb, ltb}
-use Rattle.std.proofs.Math.Option.{Option, some, none}
+use Rattle.std.specs.Prelude.{ℕ, zero, suc, ◌+◌, ◌-◌, ◌*◌, ◌%◌, cond, List, [], ◌∷◌, ◌++◌, eqb, ltb, Option, Some}
+use Rattle.std.specs.Option.{option_map}
 use Rattle.arbiter.specs.declared.table.Table.{Table}
 use Rattle.event.specs.Events.{event_of, kind_numbered, parts}
 use Rattle.event.specs.declared.events.Event.{Event}
 use Rattle.event.specs.declared.events.Kind.{Kind}
 use Rattle.event.specs.declared.events.Kind.TheVariants.{GiveUp}
 use Rattle.event.specs.declared.events.Start.{Start}
-use Rattle.cases.specs.declared.calls.Asked.{Asked}
-use Rattle.cases.specs.declared.calls.Asked.TheVariants.{Nothing, For}
 use Rattle.cases.specs.declared.calls.Call.{Call}
 use Rattle.cases.specs.declared.calls.Call.TheVariants as call
 use Rattle.cases.specs.declared.layout.Case.{Case}
-
--- the call of a kind, if there is one
-abbrev pub asked_of : (Kind → Call) → Option Kind → Asked
-asked_of f none = Nothing
-asked_of f (some k) = For (f k)
 
 -- from here on an event is written, not made
 abbrev pub writing : ℕ
 writing = 8
 
 -- the calls of events: the kind's number if the event is made, that number plus `writing` if it is written
-abbrev pub event_call_numbered : ℕ → Asked
+abbrev pub event_call_numbered : ℕ → Option Call
 event_call_numbered n =
-    cond (ltb n writing) (asked_of call.Event (kind_numbered n)) (asked_of call.Write (kind_numbered (n - writing)))
+    cond (ltb n writing) (option_map call.Event (kind_numbered n)) (option_map call.Write (kind_numbered (n - writing)))
 
--- what a number asks for; a give up's number is taken by a question, so it has numbers of its own
-abbrev pub call_numbered : ℕ → Asked
+-- the call of a number, if one has it; a give up's number is taken by a question, so it has numbers of its own
+abbrev pub call_numbered : ℕ → Option Call
 call_numbered n =
-    cond (eqb n 5) (For call.Report)
-    (cond (eqb n 6) (For call.Overdue)
-    (cond (eqb n 7) (For call.Start)
-    (cond (eqb n 13) (For call.WriteStart)
-    (cond (eqb n 14) (For (call.Event GiveUp))
-    (cond (eqb n 15) (For (call.Write GiveUp)) (event_call_numbered n))))))
+    cond (eqb n 5) (Some call.Report)
+    (cond (eqb n 6) (Some call.Overdue)
+    (cond (eqb n 7) (Some call.Start)
+    (cond (eqb n 13) (Some call.WriteStart)
+    (cond (eqb n 14) (Some (call.Event GiveUp))
+    (cond (eqb n 15) (Some (call.Write GiveUp)) (event_call_numbered n))))))
 
 -- the event of that kind that a case hands over
 abbrev pub case_event : Case → Kind → Event

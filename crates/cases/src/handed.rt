@@ -10,24 +10,22 @@ use event::{Event, Kind, Parts, Start};
 pub fn event_in(case: Case, kind: Kind) -> Event
     ensures { result ≡ case_event case kind }
 {
-    let tick = case.tick;
-    event::event_of(Parts {
+    Event::from(Parts {
         kind,
         job: case.job,
-        tick,
+        tick: case.tick,
         set: case.set,
     })
 }
 
 // The start that a case hands over, with the numbers of its table.
-pub fn start_in(case: Case, table: Table) -> Start
-    ensures { result ≡ case_start case table }
+pub fn start_in(case: Case, table: &Table) -> Start
+    ensures { result ≡ case_start case table.now }
 {
-    let tick = case.tick;
     Start {
         tokens: table.tokens,
         resources: table.resources,
-        tick,
+        tick: case.tick,
         limit: table.limit,
     }
 }
@@ -36,9 +34,7 @@ pub fn start_in(case: Case, table: Table) -> Start
 pub fn lend(list: &mut [u8])
     ensures { list.new ≡ lent (length list.old) }
 {
-    let mut i = 0;
-    while i < list.len() {
-        list[i] = ((i % 256 * 7 + 3) % 256) as u8;
-        i += 1;
+    for (i, entry) in list.iter_mut().enumerate() {
+        *entry = ((i % 256 * 7 + 3) % 256) as u8;
     }
 }

@@ -112,11 +112,8 @@ fn rows_of(bytes: &[u8; CASE]) -> [Row; JOBS]
     ensures { RowsIn bytes.now result }
 {
     let mut rows = [rows::idle(); JOBS];
-    let mut job = 0;
-    while job < JOBS {
-        let row = row_at(bytes, job);
-        rows[job] = row;
-        job += 1;
+    for (job, row) in rows.iter_mut().enumerate() {
+        *row = row_at(bytes, job);
     }
     rows
 }
@@ -125,14 +122,13 @@ fn rows_of(bytes: &[u8; CASE]) -> [Row; JOBS]
 pub fn table_of(bytes: &[u8; CASE]) -> Table
     ensures { TableIn bytes.now result }
 {
-    let rows = rows_of(bytes);
     Table {
         tokens: field(bytes, TOKENS_AT, TOKENS_WIDTH) as u32,
         resources: field(bytes, RESOURCES_AT, RESOURCES_WIDTH) as u32,
         limit: field(bytes, LIMIT_AT, LIMIT_WIDTH) as u32,
         time: field(bytes, TIME_AT, TIME_WIDTH),
         last: Turn(field(bytes, LAST_AT, LAST_WIDTH)),
-        rows,
+        rows: rows_of(bytes),
     }
 }
 

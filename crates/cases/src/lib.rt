@@ -5,6 +5,6 @@ mod calls;
 mod handed;
 mod layout;
 
-pub use calls::{Asked, Call, call_numbered};
+pub use calls::{Call, call_numbered};
 pub use handed::{event_in, lend, start_in};
 pub use layout::{CASE, Case, case_of, table_of};

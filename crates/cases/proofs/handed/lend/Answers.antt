@@ -1,6 +1,5 @@
--- The loop keeps the list's length, and that the entries before the present one are filled.
+-- The entries before the present one are filled.
 use Rattle.std.specs.Prelude.{◌%◌, ◌*◌, ◌+◌, ◌/◌, ◌<◌, ◌≡◌}
-use Rattle.std.proofs.Common.{rules}
 use Rattle.cases.specs.Prelude.{List, ◌∙◌, add-one, ap, arith, length, mul-add-mod_self_right, refl, set, sym, take, take-length, take-suc-set, ℕ}
 use Rattle.cases.specs.Calls.{lent}
 use Rattle.cases.proofs.handed.lend.Goals as goal
@@ -19,16 +18,14 @@ one_more list i h e = rw (add-one, take-suc-set list i _ h, e, entry-same i)
 
 pub loop-i-init : goal.loop-i-init
 unfolding lent
-loop-i-init c = (refl, search rules, refl)
+loop-i-init c = refl
 
 pub loop-i-preserved : goal.loop-i-preserved
-loop-i-preserved c =
-    let at = c.loop-i in
-    (one_more at.list at.i (search rules) at.invariant.0, search rules, search rules)
+loop-i-preserved c = one_more c.loop-i.list c.loop-i.i (omega arith) c.loop-i.invariant
 
 pub returns : goal.returns
 returns c =
-    let at = c.loop-i in
-    let full : at.i ≡ length at.list = omega arith in
-    let all : take (length at.list) at.list ≡ lent (length at.list) = rw (← full) at.invariant.0 in
-    sym (take-length at.list) ∙ all ∙ ap lent at.invariant.2
+    let list = c.loop-i.list in
+    let full : c.loop-i.i ≡ length list = omega arith in
+    let long = c.loop-i.auto.list in
+    sym (take-length list) ∙ rw full at c.loop-i.invariant ∙ ap lent long
