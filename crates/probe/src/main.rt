@@ -6,6 +6,7 @@ ghost use Rattle.std.specs.Prelude.{◌≤◌};
 
 use arbiter::Table;
 use cases::{CASE, Call, Case};
+use shown::CUT;
 use stream::Printer;
 
 // Makes a call and prints what it leaves. The longest list that a case can lend is one shorter than the array.
@@ -25,7 +26,7 @@ fn whole(printer: &mut Printer<impl Print + Eprint>, number: u64, bytes: &[u8; C
 {
     let case = cases::case_of(bytes);
     let Some(call) = cases::call_numbered(case.call) else {
-        printer.text(b"cut\n");
+        printer.text(CUT);
         return false;
     };
     printer.number(number);
@@ -42,7 +43,7 @@ fn turn(rt: &(impl Input + Eprint), printer: &mut Printer<impl Print + Eprint>, 
         Ok(CASE) => whole(printer, number, &bytes),
         Ok(0) | Err(_) => false,
         Ok(_) => {
-            printer.text(b"cut\n");
+            printer.text(CUT);
             false
         }
     }

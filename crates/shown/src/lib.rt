@@ -4,4 +4,5 @@
 mod print;
 mod tables;
 
-pub use print::show;
+pub use print::CUT;
+pub use tables::show;

@@ -1,29 +1,26 @@
-// Tables, printed.
+// Tables, printed, and all that a call leaves.
 ghost use Rattle.std.specs.Prelude.{◌≤◌};
 
+use crate::print;
 use arbiter::Table;
+use called::{Left, Part};
 use event::JOBS;
 use rows::Row;
 use stream::Printer;
 
-// Numbers, each after the same mark.
-fn marked(printer: &mut Printer<impl Print + Eprint>, mark: &[u8], numbers: &[u64])
-    ensures { printer.old.failures ≤ printer.new.failures }
-{
-    for number in numbers {
-        printer.word(mark, *number);
-    }
+// Whether the numbers of a row are all 0.
+fn blank(row: &Row) -> bool {
+    [row.turn.0, row.declared, row.held, row.asked, row.since] == [0; 5]
 }
 
-// A job's row, unless its numbers are all 0.
-fn row(printer: &mut Printer<impl Print + Eprint>, job: u64, row: &Row)
+// A job and the numbers of its row.
+fn show_row(printer: &mut Printer<impl Print + Eprint>, job: u64, row: &Row)
     ensures { printer.old.failures ≤ printer.new.failures }
 {
-    let rest = [row.declared, row.held, row.asked, row.since];
-    if row.turn.0 != 0 || rest != [0; 4] {
-        printer.word(b" ", job);
-        printer.word(b":", row.turn.0);
-        marked(printer, b",", &rest);
+    printer.word(b" ", job);
+    printer.word(b":", row.turn.0);
+    for number in [row.declared, row.held, row.asked, row.since] {
+        printer.word(b",", number);
     }
 }
 
@@ -31,27 +28,50 @@ fn row(printer: &mut Printer<impl Print + Eprint>, job: u64, row: &Row)
 fn rows(printer: &mut Printer<impl Print + Eprint>, rows: &[Row; JOBS])
     ensures { printer.old.failures ≤ printer.new.failures }
 {
-    for (job, line) in rows.iter().enumerate() {
-        row(printer, job as u64, line);
+    for (job, row) in rows.iter().enumerate() {
+        if !blank(row) {
+            show_row(printer, job as u64, row);
+        }
     }
 }
 
-// The numbers that stand before the rows.
-fn head(table: &Table) -> [u64; 5] {
-    [
-        table.tokens as u64,
-        table.resources as u64,
-        table.limit as u64,
-        table.time,
-        table.last.0,
-    ]
-}
-
-// The line of a table.
-pub fn table(printer: &mut Printer<impl Print + Eprint>, table: &Table)
+// The beginning of a table's line: the numbers before the rows.
+fn head(printer: &mut Printer<impl Print + Eprint>, table: &Table)
     ensures { printer.old.failures ≤ printer.new.failures }
 {
     printer.text(b"\ntable");
-    marked(printer, b" ", &head(table));
+    printer.word(b" ", table.tokens as u64);
+    printer.word(b" ", table.resources as u64);
+    printer.word(b" ", table.limit as u64);
+    printer.word(b" ", table.time);
+    printer.word(b" ", table.last.0);
+}
+
+// The line of a table.
+fn table(printer: &mut Printer<impl Print + Eprint>, table: &Table)
+    ensures { printer.old.failures ≤ printer.new.failures }
+{
+    head(printer, table);
     rows(printer, &table.rows);
+}
+
+// A part of what a call leaves.
+fn show_part(printer: &mut Printer<impl Print + Eprint>, part: Part, list: &[u8], after: &Table)
+    ensures { printer.old.failures ≤ printer.new.failures }
+{
+    match part {
+        Part::Nothing => {}
+        Part::List => print::list(printer, list),
+        Part::Table => table(printer, after),
+    }
+}
+
+// All that a call leaves, after the number of its case.
+pub fn show(printer: &mut Printer<impl Print + Eprint>, left: &Left, list: &[u8])
+    ensures { printer.old.failures ≤ printer.new.failures }
+{
+    print::line(printer, &left.line);
+    show_part(printer, left.then, list, &left.table);
+    show_part(printer, left.last, list, &left.table);
+    printer.text(b"\n");
 }
