@@ -1,6 +1,6 @@
 -- The names from outside that this crate's definitions and proofs use, passed on by one module.
-pub use Rattle.std.specs.Prelude.{ℕ, true, ◌≡◌, refl, Result}
-pub use Rattle.std.proofs.Common.{◌∙◌, ap, sym, rules}
+pub use Rattle.std.specs.Prelude.{ℕ, true, ◌≡◌, Result}
+pub use Rattle.std.proofs.Common.{◌∙◌, ap, sym}
 pub use Rattle.std.proofs.lemmas.Bool.{not-false}
 pub use Rattle.laws.specs.CaseLaws.{acceptance_tells, clear, refusal_tells}
 pub use Rattle.laws.specs.Cases.{Outcome, fine, outcome}

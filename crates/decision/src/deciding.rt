@@ -101,6 +101,7 @@ fn change_at(event: Event, s: Seen, time: u64, forbidden: bool, token: bool) -> 
 }
 
 // What an event comes to. Whether Q3 forbids its set, and whether a request opened now would have a token, is handed in.
+// The bound is no ghost field of `Seen`: the definitions make a `Seen` of any table (`seen_in`), and would carry its proof.
 pub fn decide(event: Event, s: Seen, forbidden: bool, token: bool) -> Result<Change, Refusal>
     requires { s.sound ≡ true → s.last.0 < 2 ^ 63 }
     ensures { outcome_of result ≡ outcome (refusal_cases s event) (change_for s forbidden token event) }

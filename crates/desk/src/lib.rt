@@ -7,35 +7,28 @@ ghost use Rattle.laws.specs.Front.{Wrote};
 ghost use Rattle.page.specs.Page.{word_and_numbers, word_and_numbers_room};
 ghost use Rattle.desk.specs.Promises.{Shows};
 
-use decision::Answer;
-use event::{Refusal, number};
-use loading::load;
-use page::{PAGE, Shown, put_page, put_word_and_numbers};
+use event::Refusal;
+use loading::table_in;
+use page::{PAGE, put_page, put_word_and_numbers};
 
 // Puts words and then the number of a refusal at the front of out, as a line.
 pub fn put_refusal(words: &[u8], refusal: Refusal, out: &mut [u8]) -> usize
     requires { word_and_numbers_room (length words.now) 1 ≤ length out.old }
     ensures { Wrote out.old 0 (word_and_numbers words.now (number_of refusal ∷ [])) result out.new }
 {
-    let numbers = [number(refusal) as u64];
-    put_word_and_numbers(words, &numbers, out, 0)
+    put_word_and_numbers(words, &[u64::from(u32::from(refusal))], out, 0)
 }
 
 // Puts what is shown of a service file at the front of out: the page of its table, or `no` and the number of the refusal.
 // What comes after it is kept. In too short a room nothing is put.
-pub fn show(file: &[u8], out: &mut [u8]) -> Shown
+pub fn show(file: &[u8], out: &mut [u8]) -> Result<usize, Refusal>
     ensures { Shows file.now out.old result out.new }
 {
     if out.len() < PAGE {
-        return Shown::No(Refusal::WrongSize);
+        return Err(Refusal::WrongSize);
     }
-    let loaded = load(file);
-    let answer = loaded.answer;
-    match answer {
-        Answer::No(refusal) => Shown::Length(put_refusal(b"no", refusal, out)),
-        _ => {
-            let table = loaded.table;
-            put_page(table, out)
-        }
+    match table_in(file) {
+        Ok(table) => put_page(&table, out),
+        Err(refusal) => Ok(put_refusal(b"no", refusal, out)),
     }
 }

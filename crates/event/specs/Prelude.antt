@@ -1,7 +1,7 @@
 -- The names from outside that this crate's definitions and proofs use, passed on by one module.
 pub use Rattle.std.specs.Prelude.{◌%◌, ◌+◌, ◌-◌, ◌<◌, ◌^◌, ◌≤◌, suc, zero, ℕ, Bool, ◌||◌, cond, false, true, List, [], ◌∷◌, map, ◌≡◌, refl, eqb, ltb, get_or, Option, Some, None, Result, Ok, Err}
 pub use Rattle.std.proofs.lemmas.Bool.{false≢true, lt-leb}
-pub use Rattle.std.proofs.Common.{◌∙◌, ap, sym, arith, rules, eqb-true, le-leb, le-ltb, lt-ltb, ltb-false, ne_eqb}
+pub use Rattle.std.proofs.Common.{◌∙◌, ap, sym, arith, eqb-true, le-ltb, lt-ltb, ltb-false}
 pub use Rattle.laws.specs.BoolLaws.{and_left, and_right}
 pub use Rattle.laws.specs.CaseLaws.{acceptance_tells, clear, outcome_is}
 pub use Rattle.laws.specs.Cases.{Outcome, fine, positive}

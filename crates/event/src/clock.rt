@@ -21,6 +21,7 @@ const HOUR: u64 = 3_600_000;
 pub struct Tick(pub u32);
 
 // The true time that `tick` gives after true time `time`, or why it is refused.
+#[tactic(auto, unfolding(crate::specs::Clock::forward, laws::specs::Cases::outcome, laws::specs::Cases::first))]
 pub fn forward(time: u64, tick: Tick) -> Result<u64, Refusal>
     ensures { outcome_of result ≡ forward time tick.0 }
 {

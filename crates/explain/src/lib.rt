@@ -7,7 +7,7 @@ use arbiter::Table;
 use decision::Answer;
 use event::{JOBS, Kind, Parts};
 use follow::{State, Visit, completions_away, listed, state_of};
-use hindering::{Found, hinderers};
+use hindering::hinderers;
 use stream::Printer;
 use words::{jobs, refused, what};
 
@@ -29,9 +29,9 @@ fn in_way(printer: &mut Printer<impl Print + Eprint>, after: &Table, job: u32)
 {
     let mut list = [0u8; JOBS];
     printer.text(b"waits, in the way: ");
-    match hinderers(*after, job, &mut list) {
-        Found::No(refusal) => refused(printer, refusal),
-        Found::Count(count) => jobs(printer, listed(&list, count)),
+    match hinderers(after, job, &mut list) {
+        Ok(count) => jobs(printer, listed(&list, count)),
+        Err(refusal) => refused(printer, refusal),
     }
 }
 
@@ -65,12 +65,11 @@ fn gains(printer: &mut Printer<impl Print + Eprint>, before: &Table, woken: &[u8
     }
 }
 
-// What an event was answered.
-fn said(printer: &mut Printer<impl Print + Eprint>, parts: Parts, visit: &Visit)
+// What an accepted event was answered.
+fn said(printer: &mut Printer<impl Print + Eprint>, answer: Answer, parts: Parts, visit: &Visit)
     ensures { printer.old.failures ≤ printer.new.failures }
 {
-    match visit.answer {
-        Answer::No(refusal) => refused(printer, refusal),
+    match answer {
         Answer::Token => printer.text(b"has its token"),
         Answer::Granted => printer.text(b"granted"),
         Answer::Wait => waits(printer, parts, visit.after),
@@ -82,13 +81,14 @@ fn said(printer: &mut Printer<impl Print + Eprint>, parts: Parts, visit: &Visit)
     }
 }
 
-// What a record that is no event was answered: an accepted start, or a refusal.
-fn began(printer: &mut Printer<impl Print + Eprint>, answer: Answer)
+// What a record was answered: a refusal, the answer to an event, or else that of an accepted start.
+fn answered(printer: &mut Printer<impl Print + Eprint>, visit: &Visit)
     ensures { printer.old.failures ≤ printer.new.failures }
 {
-    match answer {
-        Answer::No(refusal) => refused(printer, refusal),
-        _ => printer.text(b"started"),
+    match (visit.answer, visit.parts()) {
+        (Err(refusal), _) => refused(printer, refusal),
+        (Ok(answer), Some(parts)) => said(printer, answer, parts, visit),
+        (Ok(_), None) => printer.text(b"started"),
     }
 }
 
@@ -99,10 +99,7 @@ pub fn line(printer: &mut Printer<impl Print + Eprint>, visit: &Visit)
     printer.number(visit.number);
     what(printer, visit.reading, visit.after.time);
     printer.text(b": ");
-    match visit.parts() {
-        Some(parts) => said(printer, parts, visit),
-        None => began(printer, visit.answer),
-    }
+    answered(printer, visit);
     printer.text(b"\n");
 }
 

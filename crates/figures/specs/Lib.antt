@@ -1,4 +1,4 @@
 -- What the contracts of this crate say.
+pub mod Counting
 pub mod Prelude
 pub mod Sheet
-pub mod SheetLaws

@@ -1,45 +1,95 @@
--- The sheet on which figures are kept.
-use Rattle.std.specs.Prelude.{◌*◌, ◌+◌, ◌-◌, ◌^◌}
-use Rattle.figures.specs.Prelude.{List, cond, eqb, get_or, jobs, ltb, set, ℕ}
-
--- how many columns it has
-abbrev pub columns : ℕ
-columns = 14
-
--- the place of a job in a column
-abbrev pub place_of : ℕ → ℕ → ℕ
-place_of column job = column * jobs + job
-
--- a place of the last column, of what is counted in all
-abbrev pub in_all : ℕ → ℕ
-in_all n = place_of 13 n
-
--- the greater of two numbers
-unfoldable pub topmost : ℕ → ℕ → ℕ
-topmost a b = cond (ltb a b) b a
+-- The figures that are kept, and what is added to them.
+use Rattle.std.specs.Prelude.{◌+◌, ◌-◌, ◌^◌}
+use Rattle.figures.specs.Prelude.{None, Option, Some, get_or, jobs, max, min, replicate, set, ℕ}
+use Rattle.event.specs.declared.events.Kind.{Kind}
+use Rattle.event.specs.declared.events.Kind.TheVariants.{Beat, Open, Ask, Release, Complete, GiveUp}
+use Rattle.follow.specs.declared.State.{State}
+use Rattle.follow.specs.declared.State.TheVariants.{Idle, WaitsForToken, HasToken, WaitsForSet}
+use Rattle.figures.specs.declared.sheet.Figures.{Figures}
+use Rattle.figures.specs.declared.sheet.JobFigures.{JobFigures}
+use Rattle.figures.specs.declared.sheet.Overdue.{Overdue}
+use Rattle.figures.specs.declared.sheet.Stamp.{Stamp}
 
 -- one more, as long as there are numbers
-unfoldable pub more : ℕ → ℕ
-more n = cond (ltb n (2 ^ 64 - 1)) (n + 1) n
+abbrev pub more : ℕ → ℕ
+more n = min (n + 1) (2 ^ 64 - 1)
 
--- a sheet after one more was counted at a place
-abbrev pub counted : List ℕ → ℕ → List ℕ
-counted sheet p = set sheet p (more (get_or sheet p 0))
+-- the figures of a job that no record names
+abbrev pub unnamed : JobFigures
+unnamed =
+    record {
+      named = 0;
+      openings = 0;
+      completions = 0;
+      refusals = 0;
+      token_wait = 0;
+      set_wait = 0;
+      request = 0;
+      overdue = None;
+      opened = 0;
+    }
 
--- a sheet after a number was put at a place where a lower one stood
-abbrev pub raised : List ℕ → ℕ → ℕ → List ℕ
-raised sheet p n = set sheet p (topmost (get_or sheet p 0) n)
+-- the figures before the first record
+abbrev pub no_figures : Figures
+no_figures =
+    record {
+      jobs = replicate jobs unnamed;
+      refused = 0;
+      by_number = replicate 24 0;
+      from = 0;
+      most_live = 0;
+      most_tokens = 0;
+    }
 
--- a sheet after a record was refused: it counts in all and under its number
-abbrev pub refused_as : List ℕ → ℕ → List ℕ
-refused_as sheet n = counted (counted sheet (in_all 0)) (in_all n)
+-- the figures of a job
+abbrev pub figures_of : Figures → ℕ → JobFigures
+figures_of f job = get_or f.jobs job unnamed
 
--- a sheet after the first record at which a job is overdue was put down, unless one is known
-unfoldable pub first_late : List ℕ → ℕ → ℕ → ℕ → List ℕ
-first_late sheet index time job =
-    cond (eqb (get_or sheet (place_of 7 job) 0) 0) (set (set sheet (place_of 8 job) index) (place_of 9 job) time) sheet
+-- the figures with these for a job; one that no table has is counted nowhere
+abbrev pub with_job : Figures → ℕ → JobFigures → Figures
+with_job f job j = record f { jobs = set f.jobs job j }
 
--- a sheet after a record at which a job is overdue
-abbrev pub late_at : List ℕ → ℕ → ℕ → ℕ → List ℕ
-late_at sheet index time job =
-    set (set (counted (first_late sheet index time job) (place_of 7 job)) (place_of 10 job) index) (place_of 11 job) time
+-- the figures after a record was refused: it counts in all and under its number
+abbrev pub refused_as : Figures → ℕ → Figures
+refused_as f n = record f { refused = more f.refused; by_number = set f.by_number n (more (get_or f.by_number n 0)) }
+
+-- those after so many requests were live and so many tokens in use
+abbrev pub raised : Figures → ℕ → ℕ → Figures
+raised f live tokens = record f { most_live = max f.most_live live; most_tokens = max f.most_tokens tokens }
+
+-- ---- Those of a job
+
+-- one more refused record names it
+abbrev pub refused_once : JobFigures → JobFigures
+refused_once j = record j { refusals = more j.refusals }
+
+-- an event of this kind that names it was accepted at a time
+abbrev pub accepted_at : Kind → ℕ → JobFigures → JobFigures
+accepted_at Open time j = record j { openings = more j.openings; opened = time }
+accepted_at Complete time j = record j { completions = more j.completions; request = max j.request (time - j.opened) }
+accepted_at Beat time j = j
+accepted_at Ask time j = j
+accepted_at Release time j = j
+accepted_at GiveUp time j = j
+
+-- it waited so long, for its token or for its set
+abbrev pub waited : State → ℕ → JobFigures → JobFigures
+waited WaitsForToken long j = record j { token_wait = max j.token_wait long }
+waited WaitsForSet long j = record j { set_wait = max j.set_wait long }
+waited Idle long j = j
+waited HasToken long j = j
+
+-- the first record at which it is overdue, unless one is known
+abbrev pub first_late : Option Overdue → Stamp → Stamp
+first_late None at = at
+first_late (Some known) at = known.first
+
+-- at how many records it was overdue before
+abbrev pub late_before : Option Overdue → ℕ
+late_before None = 0
+late_before (Some known) = known.records
+
+-- it is overdue at a record
+abbrev pub late_at : Stamp → JobFigures → JobFigures
+late_at at j =
+    record j { overdue = Some (record { records = more (late_before j.overdue); first = first_late j.overdue at; last = at }) }

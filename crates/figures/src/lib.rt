@@ -5,6 +5,4 @@ mod counting;
 mod printing;
 mod sheet;
 
-pub use counting::count;
-pub use printing::{mask, print};
-pub use sheet::SIZE;
+pub use sheet::Figures;

@@ -1,131 +1,147 @@
-// The sheet on which figures are kept: a column for each kind of figure, with a place for each job, and a column for what is
-// counted in all.
-ghost use Rattle.std.specs.Prelude.{◌-◌, ◌<◌, ◌≡◌, get_or, set};
-ghost use Rattle.figures.specs.Sheet.{columns, counted, in_all, more, place_of, raised, topmost};
+// The figures that are kept: those of each job, and what is counted in all.
+ghost use Rattle.std.specs.Prelude.{◌≡◌};
+ghost use Rattle.event.specs.Refusals.{number_of};
+ghost use Rattle.figures.specs.Sheet.{accepted_at, late_at, no_figures, raised, refused_as, waited};
 
-use event::JOBS;
+use event::{JOBS, Kind, Refusal};
+use follow::State;
 
-// The columns: records that name the job, accepted openings and completions, refused records that name it;
-pub const NAMED: usize = 0;
+// How many numbers of refusals there are: 1 to 23, and 0, which no refusal has.
+pub const NUMBERS: usize = 24;
 
-pub const OPENINGS: usize = 1;
-
-pub const COMPLETIONS: usize = 2;
-
-pub const REFUSALS: usize = 3;
-
-// the longest wait for a token and for a set, and the longest time from an open to its complete;
-pub const TOKEN_WAIT: usize = 4;
-
-pub const SET_WAIT: usize = 5;
-
-pub const REQUEST: usize = 6;
-
-// at how many records it was overdue, the number and the time of the first and of the last of them;
-pub const OVERDUE: usize = 7;
-
-pub const FIRST_RECORD: usize = 8;
-
-pub const FIRST_TIME: usize = 9;
-
-pub const LAST_RECORD: usize = 10;
-
-pub const LAST_TIME: usize = 11;
-
-// when its request was opened;
-pub const OPENED: usize = 12;
-
-// and what is counted in all: refused records at place 0, then those of each number.
-pub const ALL: usize = 13;
-
-// Further places of the last column: the time of the start, the most live requests and the most tokens in use.
-pub const FROM: u32 = 40;
-
-pub const MOST_LIVE: u32 = 41;
-
-pub const MOST_TOKENS: u32 = 42;
-
-// How many places a sheet has.
-pub const SIZE: usize = 14 * JOBS;
-
-// The place of a job in a column.
-pub fn place(column: usize, job: u32) -> usize
-    requires { column < columns }
-    ensures { result ≡ place_of column job }
-{
-    column * JOBS + job as usize
+// When a record came: its number and its time.
+#[derive(Clone, Copy)]
+pub struct Stamp {
+    pub number: u64,
+    pub time: u64,
 }
 
-// What stands at a place; 0 past the end.
-pub fn get(sheet: &[u64], at: usize) -> u64
-    ensures { result ≡ get_or sheet.now at 0 }
-{
-    if sheet.len() <= at {
-        return 0;
+// At how many records a job was overdue, and the first and the last of them.
+#[derive(Clone, Copy)]
+pub struct Overdue {
+    pub records: u64,
+    pub first: Stamp,
+    pub last: Stamp,
+}
+
+// The figures of a job.
+#[derive(Clone, Copy)]
+pub struct JobFigures {
+    // records that name it, accepted openings and completions, refused records that name it
+    pub named: u64,
+    pub openings: u64,
+    pub completions: u64,
+    pub refusals: u64,
+    // the longest wait for a token and for a set, and the longest time from an open to its complete
+    pub token_wait: u64,
+    pub set_wait: u64,
+    pub request: u64,
+    pub overdue: Option<Overdue>,
+    // when its request was opened
+    pub opened: u64,
+}
+
+// The figures of a recording.
+#[derive(Clone, Copy)]
+pub struct Figures {
+    pub(crate) jobs: [JobFigures; JOBS],
+    // refused records, and those of each number
+    pub(crate) refused: u64,
+    pub(crate) by_number: [u64; NUMBERS],
+    // the time of the start
+    pub(crate) from: u64,
+    pub(crate) most_live: u64,
+    pub(crate) most_tokens: u64,
+}
+
+impl JobFigures {
+    // An accepted event that names the job.
+    pub fn accept(&mut self, kind: Kind, time: u64)
+        ensures { self.new ≡ accepted_at kind time self.old }
+    {
+        match kind {
+            Kind::Open => {
+                self.openings = self.openings.saturating_add(1);
+                self.opened = time;
+            }
+            Kind::Complete => {
+                self.completions = self.completions.saturating_add(1);
+                self.request = self.request.max(time.saturating_sub(self.opened));
+            }
+            _ => {}
+        }
     }
-    sheet[at]
-}
 
-// What stands at a place of the last column.
-pub fn in_all(sheet: &[u64], job: u32) -> u64
-    ensures { result ≡ get_or sheet.now (in_all job) 0 }
-{
-    get(sheet, place(ALL, job))
-}
+    // A wait that lasted so long, or lasts so long by now. Who does not wait adds nothing.
+    pub fn wait(&mut self, state: State, long: u64)
+        ensures { self.new ≡ waited state long self.old }
+    {
+        match state {
+            State::WaitsForToken => self.token_wait = self.token_wait.max(long),
+            State::WaitsForSet => self.set_wait = self.set_wait.max(long),
+            State::Idle | State::HasToken => {}
+        }
+    }
 
-// Puts a number at a place; past the end nothing changes.
-pub fn put(sheet: &mut [u64], at: usize, n: u64)
-    ensures { sheet.new ≡ set sheet.old at n }
-{
-    if at < sheet.len() {
-        sheet[at] = n;
+    // A record at which the job is overdue.
+    pub fn be_late(&mut self, at: Stamp)
+        ensures { self.new ≡ late_at at self.old }
+    {
+        self.overdue = Some(match self.overdue {
+            None => Overdue {
+                records: 1,
+                first: at,
+                last: at,
+            },
+            Some(known) => Overdue {
+                records: known.records.saturating_add(1),
+                last: at,
+                ..known
+            },
+        });
     }
 }
 
-// The greater of two numbers.
-#[tactic(auto, unfolding(crate::specs::Sheet::topmost))]
-fn greater(a: u64, b: u64) -> u64
-    ensures { result ≡ topmost a b }
-{
-    if a < b {
-        return b;
+impl Figures {
+    // Before the first record.
+    pub fn new() -> Figures
+        ensures { result ≡ no_figures }
+    {
+        let unnamed = JobFigures {
+            named: 0,
+            openings: 0,
+            completions: 0,
+            refusals: 0,
+            token_wait: 0,
+            set_wait: 0,
+            request: 0,
+            overdue: None,
+            opened: 0,
+        };
+        Figures {
+            jobs: [unnamed; JOBS],
+            refused: 0,
+            by_number: [0; NUMBERS],
+            from: 0,
+            most_live: 0,
+            most_tokens: 0,
+        }
     }
-    a
-}
 
-// One more, as long as there are numbers.
-#[tactic(auto, unfolding(crate::specs::Sheet::more))]
-fn next(n: u64) -> u64
-    ensures { result ≡ more n }
-{
-    if n < u64::MAX {
-        return n + 1;
+    // A refusal, in all and under its number.
+    pub fn refuse(&mut self, refusal: Refusal)
+        ensures { self.new ≡ refused_as self.old (number_of refusal) }
+    {
+        let number = u32::from(refusal) as usize;
+        self.refused = self.refused.saturating_add(1);
+        self.by_number[number] = self.by_number[number].saturating_add(1);
     }
-    n
-}
 
-// Puts a number at a place where a lower one stood.
-pub fn raise(sheet: &mut [u64], at: usize, n: u64)
-    ensures { sheet.new ≡ raised sheet.old at n }
-{
-    let old = get(sheet, at);
-    put(sheet, at, greater(old, n));
-}
-
-// Counts one more at a place.
-pub fn add_one(sheet: &mut [u64], at: usize)
-    ensures { sheet.new ≡ counted sheet.old at }
-{
-    let old = get(sheet, at);
-    put(sheet, at, next(old));
-}
-
-// How much later a time is than an earlier one.
-pub fn later_by(time: u64, earlier: u64) -> u64
-    ensures { result ≡ time - earlier }
-{
-    if time < earlier {
-        return 0;
+    // How many requests are live and how many tokens in use.
+    pub fn raise(&mut self, live: u64, tokens: u64)
+        ensures { self.new ≡ raised self.old live tokens }
+    {
+        self.most_live = self.most_live.max(live);
+        self.most_tokens = self.most_tokens.max(tokens);
     }
-    time - earlier
 }

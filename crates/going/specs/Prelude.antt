@@ -1,5 +1,5 @@
 -- The names from outside that this crate's definitions and proofs use, passed on by one module.
-pub use Rattle.std.specs.Prelude.{◌*◌, ◌+◌, ◌-◌, ◌<◌, ◌^◌, ◌≤◌, ℕ, Bool, cond, false, true, List, [], ◌++◌, ◌∷◌, ◌≡◌, refl, drop, length, set, take}
+pub use Rattle.std.specs.Prelude.{◌*◌, ◌+◌, ◌-◌, ◌<◌, ◌^◌, ◌≤◌, ℕ, Bool, Err, Ok, Result, cond, false, true, List, [], ◌++◌, ◌∷◌, ◌≡◌, refl, drop, length, set, take}
 pub use Rattle.std.proofs.lemmas.Bool.{false≢true}
 pub use Rattle.std.proofs.Common.{append_assoc, append-nil, ◌∙◌, ap, subst, sym, arith, rules, leb-false, drop_of_length-le, length-drop, length-set}
 pub use Rattle.std.proofs.lemmas.List.{set-get_or}
@@ -23,8 +23,8 @@ pub use Rattle.rows.specs.Stand.{Stands}
 pub use Rattle.rows.specs.declared.row.Row.{Row}
 unfoldable pub use Rattle.soundness.specs.Beside.{sound_by}
 pub use Rattle.soundness.specs.declared.Bounds.{Bounds}
-pub use Rattle.sweep.specs.Sweeping.{Acts, Onward, Settles}
-pub use Rattle.sweep.specs.declared.settling.Swept.{Swept}
+pub use Rattle.line.specs.declared.Line.{Line}
+pub use Rattle.sweep.specs.Sweeping.{Acts, Onward, Settles, Swept}
 pub use Rattle.upkeep.specs.Upkeep.{Appended, Removed}
 pub use Rattle.arbiter.proofs.Answering.{accepted_answers_into, refused_answers_into}
 pub use Rattle.arbiter.specs.Answers.{said_of}
@@ -39,7 +39,6 @@ pub use Rattle.arbiter.specs.Promises.{AnsweredInto}
 pub use Rattle.arbiter.specs.Refusals.{cases, seen_in}
 pub use Rattle.arbiter.specs.Sound.{row_in, sound}
 pub use Rattle.decision.specs.declared.deciding.Change.{Change}
-pub use Rattle.decision.specs.declared.deciding.Decision.{Decision}
 pub use Rattle.arbiter.specs.declared.table.Next.{Next}
 pub use Rattle.arbiter.specs.declared.table.Table.{Table}
 pub use Rattle.kept.specs.Accepted.{next_accepted}

@@ -3,14 +3,11 @@ use Rattle.std.specs.Prelude.{ℕ, List, ◌++◌, length}
 use Rattle.arbiter.specs.Refusals.{list_cases, report_cases}
 use Rattle.arbiter.specs.Sound.{row_in}
 use Rattle.arbiter.specs.declared.table.Table.{Table}
-use Rattle.event.specs.Refusals.{number_of}
-use Rattle.laws.specs.Cases.{Case, Outcome, fine, leaves, outcome, refused}
+use Rattle.laws.specs.Cases.{Case, Outcome, leaves, outcome}
 use Rattle.laws.specs.Front.{over}
 use Rattle.questions.specs.InCode.{claims_ahead}
 use Rattle.rows.specs.Line.{keep, line}
 use Rattle.rows.specs.declared.row.Row.{Row}
-use Rattle.hindering.specs.declared.Found.{Found}
-use Rattle.hindering.specs.declared.Found.TheVariants as found
 
 -- the jobs of lower turn than n that declare some member of s, in order of turn
 unfoldable pub claimants_before : List Row → ℕ → ℕ → List ℕ
@@ -31,8 +28,3 @@ hinder_answer n t j = outcome (hinder_cases n t j) (length (in_way_of t j))
 -- the lent list after the question
 unfoldable pub hinder_list : Table → ℕ → List ℕ → List ℕ
 hinder_list t j out = leaves (hinder_cases (length out) t j) out (over (in_way_of t j) out)
-
--- what the answer says
-abbrev pub found_of : Found → Outcome ℕ
-found_of (found.No r) = refused (number_of r)
-found_of (found.Count n) = fine n

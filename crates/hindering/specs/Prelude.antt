@@ -1,16 +1,14 @@
 -- The names from outside that this crate's definitions and proofs use, passed on by one module.
-pub use Rattle.std.specs.Prelude.{◌-◌, ◌<◌, ◌≤◌, ℕ, ◌&&◌, not, true, List, ◌≡◌, refl, ltb, get_or, length}
-pub use Rattle.std.proofs.Common.{⊎_elim, ◌∙◌, ap, subst, sym, arith, rules, le-leb, le-ltb, lt-ltb, drop_of_length-le}
-pub use Rattle.std.proofs.lemmas.Bool.{lt-leb, not-false}
+pub use Rattle.std.specs.Prelude.{◌-◌, ◌<◌, ◌≤◌, ℕ, ◌&&◌, not, true, List, Result, Err, Ok, ◌≡◌, ltb, get_or, length}
+pub use Rattle.std.proofs.Common.{◌∙◌, ap, subst, sym, le-leb, le-ltb, lt-ltb}
+pub use Rattle.std.proofs.lemmas.Bool.{lt-leb}
 pub use Rattle.laws.specs.CaseLaws.{leaves_is, outcome_is, refusal_tells}
 pub use Rattle.laws.specs.Cases.{fine, outcome, refused}
 pub use Rattle.laws.specs.Chains.{First, none, past, this}
 pub use Rattle.laws.specs.Counts.{count_and_true, count_every}
-pub use Rattle.laws.specs.Determined.{determined, told_apart}
+pub use Rattle.laws.specs.Determined.{determined}
 pub use Rattle.laws.specs.Front.{over}
-pub use Rattle.event.specs.Answers.{answer_by}
-pub use Rattle.event.specs.Limits.{jobs}
-pub use Rattle.event.proofs.RefusalLaws.{refusal_of_number_of}
+pub use Rattle.event.proofs.AnswerLaws.{outcome_determined}
 pub use Rattle.event.specs.Refusals.{number_of}
 pub use Rattle.event.specs.declared.refusal.Refusal.{Refusal}
 pub use Rattle.event.specs.declared.refusal.Refusal.TheVariants.{NoSuchJob, NotLive, ShortList, UnsoundTable}

@@ -11,7 +11,7 @@ ghost use Rattle.lines.specs.Promises.{line_room, word_from, word_room};
 use arbiter::Table;
 use decimal::put;
 use decision::Answer;
-use event::JOBS;
+use event::{JOBS, Refusal};
 use rows::live_count;
 
 // Puts a word and then a number.
@@ -45,14 +45,15 @@ fn put_jobs(jobs: &[u8], out: &mut [u8], at: usize) -> usize
     end
 }
 
-// Puts `ok` and these jobs.
-fn put_ok(jobs: &[u8], out: &mut [u8], at: usize) -> usize
+// Puts `ok` and the first `count` jobs of a list, or all of them if there are fewer.
+fn put_ok(jobs: &[u8], count: u32, out: &mut [u8], at: usize) -> usize
     requires { at + 3 + 4 * length jobs.now ≤ length out.old }
-    ensures wrote { Wrote out.old at (word_text (ok jobs.now)) result out.new }
+    ensures wrote { Wrote out.old at (word_text (ok (take count jobs.now))) result out.new }
     ensures upper_bound { result ≤ at + 3 + 4 * length jobs.now }
 {
     let next = put(b" ok", out, at);
-    put_jobs(jobs, out, next)
+    let some = (count as usize).min(jobs.len());
+    put_jobs(&jobs[..some], out, next)
 }
 
 // Puts `no` and the number of a refusal.
@@ -65,26 +66,30 @@ fn put_no(number: u32, out: &mut [u8], at: usize) -> usize
 }
 
 // Puts the word for an answer; the jobs it woke stand at the front of a list.
-fn put_word(answer: Answer, woken: &[u8; JOBS], out: &mut [u8], at: usize) -> usize
+#[tactic(auto, unfolding(crate::specs::Promises::word_from, crate::specs::Lines::word_text, crate::specs::Lines::items))]
+fn put_word(answer: Result<Answer, Refusal>, woken: &[u8; JOBS], out: &mut [u8], at: usize) -> usize
     requires { at + word_room ≤ length out.old }
     ensures wrote { Wrote out.old at (word_text (word_from (said_of answer) woken.now)) result out.new }
     ensures upper_bound { result ≤ at + word_room }
 {
     match answer {
-        Answer::No(refusal) => put_no(event::number(refusal), out, at),
-        Answer::Token => put(b" ok", out, at),
-        Answer::Granted => put(b" ok", out, at),
-        Answer::Wait => put(b" wait", out, at),
-        Answer::Done => put(b" ok", out, at),
-        Answer::Woke(count) => {
-            let some = (count as usize).min(woken.len());
-            put_ok(&woken[..some], out, at)
-        }
+        Err(refusal) => put_no(u32::from(refusal), out, at),
+        Ok(Answer::Token) => put(b" ok", out, at),
+        Ok(Answer::Granted) => put(b" ok", out, at),
+        Ok(Answer::Wait) => put(b" wait", out, at),
+        Ok(Answer::Done) => put(b" ok", out, at),
+        Ok(Answer::Woke(count)) => put_ok(woken, count, out, at),
     }
 }
 
 // Puts the line of a record.
-pub fn put_line(number: u64, answer: Answer, woken: &[u8; JOBS], out: &mut [u8], at: usize) -> usize
+pub fn put_line(
+    number: u64,
+    answer: Result<Answer, Refusal>,
+    woken: &[u8; JOBS],
+    out: &mut [u8],
+    at: usize,
+) -> usize
     requires { at + line_room ≤ length out.old }
     ensures wrote { Wrote out.old at (line number (word_from (said_of answer) woken.now)) result out.new }
     ensures upper_bound { result ≤ at + line_room }
@@ -102,9 +107,9 @@ pub fn tokens_in(tokens: u32, live: u32) -> u32
 }
 
 // Puts the last line at place `at`.
-pub fn put_end(table: Table, out: &mut [u8], at: usize) -> usize
+pub fn put_end(table: &Table, out: &mut [u8], at: usize) -> usize
     requires { at + line_room ≤ length out.old }
-    ensures { Wrote out.old at (end_line table) result out.new }
+    ensures { Wrote out.old at (end_line table.now) result out.new }
 {
     let live = live_count(&table.rows);
     let tokens = tokens_in(table.tokens, live);

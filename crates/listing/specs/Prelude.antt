@@ -1,5 +1,5 @@
 -- The names from outside that this crate's definitions and proofs use, passed on by one module.
-pub use Rattle.std.specs.Prelude.{◌*◌, ◌+◌, ◌-◌, ◌<◌, ◌≤◌, min, ℕ, Bool, ◌||◌, cond, false, true, List, [], ◌++◌, ◌∷◌, ◌≡◌, refl, eqb, ltb, drop, length, take}
+pub use Rattle.std.specs.Prelude.{Err, Ok, Result, ◌*◌, ◌+◌, ◌-◌, ◌<◌, ◌≤◌, min, ℕ, Bool, ◌||◌, cond, false, true, List, [], ◌++◌, ◌∷◌, ◌≡◌, refl, eqb, ltb, drop, length, take}
 pub use Rattle.std.proofs.lemmas.Bool.{false≢true, eqb-false, lt-leb}
 pub use Rattle.std.proofs.Common.{append_assoc, append-nil, ◌∙◌, ap, subst, sym, add-zero, zero-add, arith, rules, eqb-true, le-leb, ltb-false, ltb-true, drop_of_length-le, length-append, length-drop, length-take-le, take_all}
 pub use Rattle.std.proofs.Math.Nat.{sub-zero}
@@ -42,7 +42,6 @@ pub use Rattle.stage.specs.Stages.{by_stage, ended, stage_after, stage_after_fir
 unfoldable pub use Rattle.stage.specs.Stages.{table_after, word}
 pub use Rattle.stage.specs.declared.Stage.{Stage}
 pub use Rattle.stage.specs.declared.Stage.TheVariants.{First, Going, Over}
-pub use Rattle.listing.specs.declared.replay.Listed.{Listed}
+pub use Rattle.listing.specs.declared.replay.NotTaken.{NotTaken}
+pub use Rattle.listing.specs.declared.replay.NotTaken.TheVariants.{Full, NoRoom}
 pub use Rattle.listing.specs.declared.replay.Replay.{Replay}
-pub use Rattle.listing.specs.declared.replay.Stepped.{Stepped}
-pub use Rattle.listing.specs.declared.replay.Took.{Took}

@@ -3,4 +3,4 @@
 
 mod replay;
 
-pub use replay::{LINE, Listed, Replay, Stepped, Took};
+pub use replay::{LINE, NotTaken, Replay};

@@ -1,68 +1,78 @@
 -- The rows of a file taken one by one, and what the tests of loading come to.
-use Rattle.std.specs.Prelude.{◌&&◌, ◌*◌, ◌+◌, ◌<◌, ◌||◌, ◌∷◌, ◌≡◌, ◌≤◌}
-use Rattle.loading.specs.Prelude.{Bool, FileHead, FileRow, First, List, Next, Row, Table, UnsoundTable, [], ◌∙◌, and_assoc, and-true, any, ap, drop, eq-eqb, eqb, false, first, idle, jobs, keep_unless, le-ltb, leaves, leaves_is, length, length-set, live, lt-ltb, ltb, map, ne_eqb, no_table, not, or_assoc, or-false, outcome, outcome_is, refl, refusing, replicate, row_of, said_of, says_done, set, sound, subst, sym, true, unless, ℕ}
-use Rattle.service.specs.File.{bit_set, file_rows, good, head_in, head_size, known, placed, read_cases, row_said, row_size, rows_in, table_in, table_of, version, wrong_size}
+use Rattle.std.specs.Prelude.{◌&&◌, ◌*◌, ◌+◌, ◌<◌, ◌||◌, ◌∷◌, ◌≡◌, ◌≤◌, Err, Ok, Result}
+use Rattle.loading.specs.Prelude.{BitSet, Bool, FileHead, FileRow, List, Refusal, Row, Table, UnsoundTable, [], ◌∙◌, and_assoc, and-true, any, ap, arith, drop, eq-eqb, eqb, false, fine, first, idle, jobs, le-ltb, length, length-replicate, length-set, live, lt-ltb, ltb, ne_eqb, none, not, number_of, outcome, outcome_is, outcome_of, past, refl, refused, refusing, replicate, row_of, set, sound, subst, sym, this, true, ℕ}
+use Rattle.service.specs.File.{ascend, bit_set, file_rows, good, head_in, head_size, known, once, placed, row_said, row_size, rows_in, table_in, table_of, table_read, version, wrong_size}
 use Rattle.service.specs.Placing.{JobsBelow, fits, free}
 use Rattle.service.specs.PlacingLaws.{fits_all}
-use Rattle.loading.specs.Meaning.{load_answer, load_table}
-use Rattle.loading.specs.Promises.{Loaded}
-use Rattle.loading.specs.Taking.{Judges, Taking, Takes, judge_cases}
+use Rattle.loading.specs.Taking.{Taking, rows_taken, stray}
 
 -- ---- Row by row
 
-pub taking_start : (fs : List FileRow) → length (replicate jobs idle) ≡ jobs → Taking fs fs (replicate jobs idle) true false 0
-taking_start fs long = record { long = long; places = refl; fit = refl; strays = refl }
+pub taking_start : (fs : List FileRow) → Taking fs fs (replicate jobs idle) true 0
+taking_start fs = record { long = length-replicate jobs idle; places = refl; fit = refl; strays = refl }
 
--- one more: e and l are what code tested
-taking_step :
-    {fs left : List FileRow} {rows : List Row} {ok stray e l : Bool} {n : ℕ} (f : FileRow) → Taking fs (f ∷ left) rows ok stray n →
-    e ≡ ltb n f.turn → l ≡ live (row_of rows f.job) →
-    Taking fs left (set rows f.job (row_said f)) (ok && e && not l) (stray || ltb 0 f.zero) f.turn
+-- one more, with no bit set that must be 0: e and l are what code tested, x is the row that it says
+pub taking_next :
+    {fs left : List FileRow} {rows : List Row} {ok e l : Bool} {n : ℕ} (f : FileRow) (x : Row) → Taking fs (f ∷ left) rows ok n →
+    ltb 0 f.zero ≡ false → x ≡ row_said f → e ≡ ltb n x.turn.0 → l ≡ live (row_of rows f.job) →
+    Taking fs left (set rows f.job x) (ok && (e && not l)) x.turn.0
 unfolding fits placed any
-taking_step {fs} {left} {rows} {ok} {stray} {e} {l} {n} f now is-above is_live =
-    let after = set rows f.job (row_said f) in
-    record {
+taking_next {fs} {left} {rows} {ok} {e} {l} {n} f x now clear is is-above is_live =
+    subst (λ (r : Row). Taking fs left (set rows f.job r) (ok && (e && not l)) r.turn.0) (sym is)
+    (record {
       long = length-set rows f.job (row_said f) ∙ now.long;
       places = now.places;
       fit =
-          rw (is-above, is_live)
-          (rw (and_assoc ok (ltb n f.turn) (free rows f), and_assoc ok (ltb n f.turn && free rows f) (fits f.turn after left))
-          now.fit);
-      strays = or_assoc stray (ltb 0 f.zero) (any (ltb 0) (map (λ g. g.zero) left)) ∙ now.strays;
-    }
+          rw (is-above, is, is_live)
+          (rw (and_assoc ok (ltb n f.turn && free rows f) (fits f.turn (set rows f.job (row_said f)) left)) now.fit);
+      strays = rw clear at now.strays;
+    })
 
--- the same of row x, which is the one that f says
-pub taking_next :
-    {fs left : List FileRow} {rows : List Row} {ok stray e l : Bool} {n : ℕ} (f : FileRow) (x : Row) →
-    Taking fs (f ∷ left) rows ok stray n → x ≡ row_said f → e ≡ ltb n x.turn.0 → l ≡ live (row_of rows f.job) →
-    Taking fs left (set rows f.job x) (ok && e && not l) (stray || ltb 0 f.zero) x.turn.0
-taking_next {fs} {left} {rows} {ok} {stray} {e} {l} {n} f x now is is-above is_live =
-    subst (λ (r : Row). Taking fs left (set rows f.job r) (ok && e && not l) (stray || ltb 0 f.zero) r.turn.0) (sym is)
-    (taking_step f now (is-above ∙ ap (λ (r : Row). ltb n r.turn.0) is) is_live)
+-- a bit of the next is set that must be 0
+pub taking_stray :
+    {fs left : List FileRow} {rows : List Row} {ok : Bool} {n : ℕ} (f : FileRow) → Taking fs (f ∷ left) rows ok n →
+    ltb 0 f.zero ≡ true → refused (number_of BitSet) ≡ rows_taken fs
+unfolding any rows_taken
+taking_stray {fs} f now set =
+    let some : stray fs ≡ true = rw set at (sym now.strays) in
+    outcome_is (placed (replicate jobs idle) fs) (this some)
 
-pub taking_end :
-    {fs : List FileRow} {rows : List Row} {ok stray : Bool} {n : ℕ} → JobsBelow fs → Taking fs [] rows ok stray n → Takes fs rows ok stray
-unfolding fits placed any
-taking_end {fs} {rows} {ok} {stray} jobs-below now =
-    record {
-      places = now.places;
-      fit = sym (and-true ok) ∙ now.fit ∙ fits_all fs jobs-below;
-      strays = sym (or-false stray) ∙ now.strays;
-    }
+-- all were taken
+module _ {fs : List FileRow} {rows : List Row} {ok : Bool} {n : ℕ} (below : JobsBelow fs) (now : Taking fs [] rows ok n) where
+  none_stray : stray fs ≡ false
+  unfolding any
+  none_stray = sym now.strays
 
--- ---- Tests and cases
+  fit_tested : ok ≡ (ascend 0 fs && once fs)
+  unfolding fits
+  fit_tested = sym (and-true ok) ∙ now.fit ∙ fits_all fs below
 
--- what the first case that applies says of a load
-pub loaded_is :
-    (bs : List ℕ) {n : ℕ} {r : Next} → First (read_cases bs) n → said_of r.answer ≡ unless n says_done →
-    r.table ≡ keep_unless n no_table (table_in bs) → Loaded bs r
-unfolding load_answer load_table
-loaded_is bs f a h = record { says = a ∙ outcome_is says_done f; hands = h ∙ leaves_is no_table (table_in bs) f }
+  pub taking_fit : ok ≡ true → fine rows ≡ rows_taken fs
+  unfolding placed rows_taken
+  taking_fit fit = ap fine now.places ∙ outcome_is (placed (replicate jobs idle) fs) (past none_stray (past (ap not (sym fit_tested ∙ fit)) none))
 
-pub judged_is :
-    (t : Table) (ok : Bool) {n : ℕ} {r : Next} → First (judge_cases t ok) n → said_of r.answer ≡ unless n says_done →
-    r.table ≡ keep_unless n no_table t → Judges t ok r
-judged_is t ok f a h = record { says = a ∙ outcome_is says_done f; hands = h ∙ leaves_is no_table t f }
+  pub taking_unfit : ok ≡ false → refused (number_of UnsoundTable) ≡ rows_taken fs
+  unfolding rows_taken
+  taking_unfit unfit = outcome_is (placed (replicate jobs idle) fs) (past none_stray (this (ap not (sym fit_tested ∙ unfit))))
+
+-- ---- Refused by the rows, or by the table after them
+
+refused_on :
+    {A B : Type 0} (set fit ok : Bool) (a : A) (b : B) (k : ℕ) →
+    refused k ≡ outcome (refusing BitSet set ∷ refusing UnsoundTable (not fit) ∷ []) a →
+    refused k ≡ outcome (refusing BitSet set ∷ refusing UnsoundTable (not (fit && ok)) ∷ []) b
+unfolding outcome first
+refused_on true fit ok a b k e = ap refused (let n : k ≡ number_of BitSet = cc in n)
+refused_on false false ok a b k e = ap refused (let n : k ≡ number_of UnsoundTable = cc in n)
+refused_on false true ok a b k e = let z : ◌≡◌ {A = ℕ} 0 1 = cc in absurd (omega arith)
+
+taken_on :
+    {A : Type 0} (set fit : Bool) (a x : A) → fine x ≡ outcome (refusing BitSet set ∷ refusing UnsoundTable (not fit) ∷ []) a →
+    (set ≡ false) × (fit ≡ true) × (x ≡ a)
+unfolding outcome first
+taken_on true fit a x e = let z : ◌≡◌ {A = ℕ} 0 1 = cc in absurd (omega arith)
+taken_on false false a x e = let z : ◌≡◌ {A = ℕ} 0 1 = cc in absurd (omega arith)
+taken_on false true a x e = (refl, refl, cc)
 
 -- ---- What the head and the rows that were read say of the file
 
@@ -94,34 +104,48 @@ module _ (bs : List ℕ) (h : FileHead) (is : h ≡ head_in bs) where
       pub right_size : length bs ≡ head_size + row_size * h.count → wrong_size bs ≡ false
       right_size same = size_tested ∙ ap not (eq-eqb (length bs) (head_size + row_size * h.count) same)
 
-  module _ (rows : List Row) (ok stray : Bool) (takes : Takes (rows_in h.count (drop head_size bs)) rows ok stray) where
-    taken : Takes (file_rows bs) rows ok stray
-    taken = subst (λ (x : FileHead). Takes (rows_in x.count (drop head_size bs)) rows ok stray) is takes
-
-    pub zeros_tested : (ltb 0 h.zero || stray) ≡ bit_set bs
+  module _ (size : wrong_size bs ≡ false) (one : known bs ≡ true) where
+    bits : (b : Bool) → ltb 0 h.zero ≡ b → bit_set bs ≡ (b || stray (file_rows bs))
     unfolding any
-    zeros_tested = λ i. ltb 0 (is i).zero || taken.strays i
+    bits b e = ap (λ (x : FileHead). ltb 0 x.zero || stray (file_rows bs)) (sym is) ∙ ap (λ (a : Bool). a || stray (file_rows bs)) e
 
-    pub table_read_lem : table_of h rows ≡ table_in bs
+    -- a bit of the head is set that must be 0
+    pub stray_head : ltb 0 h.zero ≡ true → refused (number_of BitSet) ≡ table_read bs
+    unfolding table_read
+    stray_head e = outcome_is (table_in bs) (past size (past (ap not one) (this (bits true e))))
+
+    table_same : (rows : List Row) → rows ≡ placed (replicate jobs idle) (file_rows bs) → table_of h rows ≡ table_in bs
     unfolding table_in
-    table_read_lem = λ i. table_of (is i) (taken.places i)
+    table_same rows e = λ i. table_of (is i) (e i)
 
-    good_tested : (ok && sound (table_in bs)) ≡ good bs
-    good_tested = ap (λ (b : Bool). b && sound (table_in bs)) taken.fit
+    module _ (clear : ltb 0 h.zero ≡ false) (r : Result (List Row) Refusal) (taken : outcome_of r ≡ rows_taken (rows_in h.count (drop head_size bs))) where
+      of_file : outcome_of r ≡ rows_taken (file_rows bs)
+      of_file = taken ∙ ap (λ (x : FileHead). rows_taken (rows_in x.count (drop head_size bs))) is
 
-    -- what is left to judge
-    pub judged_loads :
-        {r : Next} → wrong_size bs ≡ false → known bs ≡ true → bit_set bs ≡ false → (t : Table) → t ≡ table_in bs → Judges t ok r →
-        Loaded bs r
-    unfolding outcome leaves first load_answer load_table
-    judged_loads {r} size one clear t is-table j =
-        let same : first (judge_cases t ok) ≡ first (read_cases bs) =
-        rw (size, one, clear)
-        (ap (λ (u : Table). first (judge_cases u ok)) is-table
-        ∙ ap (λ (b : Bool). first (refusing UnsoundTable (not b) ∷ [])) good_tested) in
-        record {
-          says = j.says ∙ ap (λ (n : ℕ). unless n says_done) same;
-          hands =
-              j.hands ∙ ap (λ (n : ℕ). keep_unless n no_table t) same
-              ∙ ap (keep_unless (first (read_cases bs)) no_table) is-table;
-        }
+      -- rows that are refused
+      pub rows_refused : (e : Refusal) → r ≡ Err e → refused (number_of e) ≡ table_read bs
+      unfolding table_read rows_taken outcome first
+      rows_refused e told =
+          rw (size, one, bits false clear)
+          (refused_on (stray (file_rows bs)) (ascend 0 (file_rows bs) && once (file_rows bs)) (sound (table_in bs)) _ (table_in bs) (number_of e)
+          (sym (ap outcome_of told) ∙ of_file))
+
+      -- rows that are taken, and then the table
+      module _ (rows : List Row) (told : r ≡ Ok rows) (t : Table) (is-table : t ≡ table_of h rows) where
+        all : (stray (file_rows bs) ≡ false) × ((ascend 0 (file_rows bs) && once (file_rows bs)) ≡ true) × (rows ≡ placed (replicate jobs idle) (file_rows bs))
+        unfolding rows_taken
+        all = taken_on (stray (file_rows bs)) (ascend 0 (file_rows bs) && once (file_rows bs)) _ rows (sym (ap outcome_of told) ∙ of_file)
+
+        same : t ≡ table_in bs
+        same = is-table ∙ table_same rows all.2
+
+        judged : good bs ≡ sound t
+        judged = ap (λ (b : Bool). b && sound (table_in bs)) all.1 ∙ ap sound (sym same)
+
+        pub table_refused : sound t ≡ false → refused (number_of UnsoundTable) ≡ table_read bs
+        unfolding table_read
+        table_refused e = outcome_is (table_in bs) (past size (past (ap not one) (past (bits false clear ∙ all.0) (this (ap not (judged ∙ e))))))
+
+        pub table_loaded : sound t ≡ true → fine t ≡ table_read bs
+        unfolding table_read
+        table_loaded e = ap fine same ∙ outcome_is (table_in bs) (past size (past (ap not one) (past (bits false clear ∙ all.0) (past (ap not (judged ∙ e)) none))))

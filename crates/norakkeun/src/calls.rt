@@ -7,14 +7,14 @@ ghost use Rattle.numbers.specs.Numbers.{event_in_numbers, event_told, late_in_nu
 
 use arbiter::Table;
 use event::Tick;
-use numbers::{JobReport, LateJobs, Told, event_in_numbers, late_in_numbers, report_in_numbers};
+use numbers::{JobReport, LateJobs, Told};
 
 // The first table: all rows idle, true time is the tick. A refused start gives the all-zero table, which is not sound.
 #[unsafe(no_mangle)]
 pub extern "C" fn norakkeun_start(tokens: u32, resources: u32, tick: Tick, limit: u32) -> Told
     ensures { result ≡ event_in_numbers (start_answer tokens resources limit) (start_table tokens resources tick.0 limit) }
 {
-    event_in_numbers(Table::start(tokens, resources, tick, limit))
+    Told::from(Table::start(tokens, resources, tick, limit))
 }
 
 // Only the clock moves.
@@ -22,7 +22,7 @@ pub extern "C" fn norakkeun_start(tokens: u32, resources: u32, tick: Tick, limit
 pub extern "C" fn norakkeun_beat(table: Table, tick: Tick) -> Told
     ensures { result ≡ event_told jobs table (Beat tick) }
 {
-    event_in_numbers(table.beat(tick))
+    Told::from(table.beat(tick))
 }
 
 // The job's request becomes live with the next turn and this declared set.
@@ -30,7 +30,7 @@ pub extern "C" fn norakkeun_beat(table: Table, tick: Tick) -> Told
 pub extern "C" fn norakkeun_open(table: Table, job: u32, tick: Tick, set: u64) -> Told
     ensures { result ≡ event_told jobs table (Open job tick set) }
 {
-    event_in_numbers(table.open(job, tick, set))
+    Told::from(table.open(job, tick, set))
 }
 
 // The whole set is held, or the whole set is asked.
@@ -38,7 +38,7 @@ pub extern "C" fn norakkeun_open(table: Table, job: u32, tick: Tick, set: u64) -
 pub extern "C" fn norakkeun_ask(table: Table, job: u32, tick: Tick, set: u64) -> Told
     ensures { result ≡ event_told jobs table (Ask job tick set) }
 {
-    event_in_numbers(table.ask(job, tick, set))
+    Told::from(table.ask(job, tick, set))
 }
 
 // The members leave the held set.
@@ -46,7 +46,7 @@ pub extern "C" fn norakkeun_ask(table: Table, job: u32, tick: Tick, set: u64) ->
 pub extern "C" fn norakkeun_release(table: Table, job: u32, tick: Tick, set: u64) -> Told
     ensures { result ≡ event_told jobs table (Release job tick set) }
 {
-    event_in_numbers(table.release(job, tick, set))
+    Told::from(table.release(job, tick, set))
 }
 
 // The row becomes idle; the woken jobs are written to the lent list in order of turn.
@@ -55,7 +55,7 @@ pub extern "C" fn norakkeun_complete(table: Table, job: u32, tick: Tick, woken: 
     ensures value { result ≡ event_told (length woken.old) table (Complete job tick) }
     ensures woken_after { woken.new ≡ listed table (Complete job tick) woken.old }
 {
-    event_in_numbers(table.complete(job, tick, woken))
+    Told::from(table.complete(job, tick, woken))
 }
 
 // The members leave the held and the declared set for good; the woken jobs are written to the lent list in order of turn.
@@ -70,7 +70,7 @@ pub extern "C" fn norakkeun_give_up(
     ensures value { result ≡ event_told (length woken.old) table (GiveUp job tick set) }
     ensures woken_after { woken.new ≡ listed table (GiveUp job tick set) woken.old }
 {
-    event_in_numbers(table.give_up(job, tick, set, woken))
+    Told::from(table.give_up(job, tick, set, woken))
 }
 
 // The report of a job's request.
@@ -78,7 +78,7 @@ pub extern "C" fn norakkeun_give_up(
 pub extern "C" fn norakkeun_report(table: Table, job: u32) -> JobReport
     ensures { result ≡ report_in_numbers (report table job) }
 {
-    report_in_numbers(asking::report(table, job))
+    JobReport::from(asking::report(&table, job))
 }
 
 // The jobs whose wait is the limit or more, written to the lent list in order of turn.
@@ -87,5 +87,5 @@ pub extern "C" fn norakkeun_overdue(table: Table, tick: Tick, late: &mut [u8]) -
     ensures value { result ≡ late_in_numbers (overdue (length late.old) table tick.0) }
     ensures late_after { late.new ≡ overdue_list table tick.0 late.old }
 {
-    late_in_numbers(asking::overdue(table, tick, late))
+    LateJobs::from(asking::overdue(&table, tick, late))
 }

@@ -6,7 +6,7 @@ ghost use Rattle.saving.specs.Meaning.{room_after, save_answer};
 
 use arbiter::Table;
 use loading::load;
-use numbers::{SavedFile, Told, event_in_numbers, saved_in_numbers};
+use numbers::{SavedFile, Told};
 use saving::save;
 
 // The table's service file at the front of the lent room.
@@ -15,7 +15,7 @@ pub extern "C" fn norakkeun_save(table: Table, room: &mut [u8]) -> SavedFile
     ensures value { result ≡ saved_in_numbers (save_answer table room.old) }
     ensures room_after { room.new ≡ room_after table room.old }
 {
-    saved_in_numbers(save(table, room))
+    SavedFile::from(save(&table, room))
 }
 
 // The table in a service file. A refused load gives the all-zero table, which is not sound.
@@ -23,5 +23,5 @@ pub extern "C" fn norakkeun_save(table: Table, room: &mut [u8]) -> SavedFile
 pub extern "C" fn norakkeun_load(file: &[u8]) -> Told
     ensures { result ≡ event_in_numbers (load_answer file.now) (load_table file.now) }
 {
-    event_in_numbers(load(file))
+    Told::from(load(file))
 }

@@ -7,7 +7,6 @@ ghost use Rattle.arbiter.specs.Meaning.{overdue, overdue_list, report};
 ghost use Rattle.numbers.specs.Numbers.{late_in_numbers, report_in_numbers};
 ghost use Rattle.in_place.specs.Promises.{InPlace, InPlaceInto};
 
-use crate::calls::{norakkeun_overdue, norakkeun_report};
 use arbiter::Table;
 use event::{Event, Tick};
 use in_place::{carry, carry_waking};
@@ -89,7 +88,7 @@ pub extern "C" fn norakkeun_give_up_in(
 pub extern "C" fn norakkeun_report_of(table: &Table, job: u32) -> JobReport
     ensures { result ≡ report_in_numbers (report table.now job) }
 {
-    norakkeun_report(*table, job)
+    JobReport::from(asking::report(table, job))
 }
 
 // The jobs whose wait is the limit or more, written to the lent list in order of turn.
@@ -98,5 +97,5 @@ pub extern "C" fn norakkeun_overdue_of(table: &Table, tick: Tick, late: &mut [u8
     ensures value { result ≡ late_in_numbers (overdue (length late.old) table.now tick.0) }
     ensures late_after { late.new ≡ overdue_list table.now tick.0 late.old }
 {
-    norakkeun_overdue(*table, tick, late)
+    LateJobs::from(asking::overdue(table, tick, late))
 }

@@ -1,3 +1,2 @@
 -- What answers are in numbers.
 pub mod Numbers
-pub mod Prelude

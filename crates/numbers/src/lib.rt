@@ -2,19 +2,16 @@
 #![tactic(auto)]
 
 ghost use Rattle.std.specs.Prelude.{◌≡◌};
-ghost use Rattle.arbiter.specs.Answers.{late_of, report_of, said_of};
-ghost use Rattle.saving.specs.Meaning.{saved_of};
-ghost use Rattle.writing.specs.Meaning.{writing_of};
+ghost use Rattle.arbiter.specs.Answers.{said_of};
+ghost use Rattle.event.specs.Refusals.{outcome_of};
 ghost use Rattle.numbers.specs.Numbers.{answer_in_numbers, event_in_numbers, late_in_numbers, refusal_in, report_in_numbers, saved_in_numbers};
 
-use arbiter::{Late, Next, Report, Reported, Table};
+use arbiter::{Next, Report, Table};
 use decision::Answer;
-use event::number;
+use event::Refusal;
 use rows::Turn;
-use saving::Saved;
-use writing::Writing;
 
-// The answer to an accepted event; 0 where it is refused.
+// The answer to an accepted event; 0 where it is refused. Numbers, since C reads them (`norakkeun.h`).
 const TOKEN: u32 = 1;
 
 const GRANTED: u32 = 2;
@@ -68,24 +65,6 @@ pub struct SavedFile {
     pub length: u32,
 }
 
-// An event's answer.
-pub fn answer_in_numbers(answer: Answer) -> EventAnswer
-    ensures { result ≡ answer_in_numbers (said_of answer) }
-{
-    match answer {
-        Answer::No(refusal) => EventAnswer {
-            refusal: number(refusal),
-            said: 0,
-            woken: 0,
-        },
-        Answer::Token => accepted(TOKEN, 0),
-        Answer::Granted => accepted(GRANTED, 0),
-        Answer::Wait => accepted(WAIT, 0),
-        Answer::Done => accepted(DONE, 0),
-        Answer::Woke(woken) => accepted(WOKE, woken),
-    }
-}
-
 // An accepted event.
 fn accepted(said: u32, woken: u32) -> EventAnswer
     ensures { result ≡ record { refusal = 0; said = said; woken = woken } }
@@ -97,72 +76,98 @@ fn accepted(said: u32, woken: u32) -> EventAnswer
     }
 }
 
+// An event's answer.
+impl From<Result<Answer, Refusal>> for EventAnswer {
+    ghost from_gives = { λ answer numbers. numbers ≡ answer_in_numbers (said_of answer) };
+
+    fn from(answer: Result<Answer, Refusal>) -> EventAnswer {
+        match answer {
+            Err(refusal) => EventAnswer {
+                refusal: u32::from(refusal),
+                said: 0,
+                woken: 0,
+            },
+            Ok(Answer::Token) => accepted(TOKEN, 0),
+            Ok(Answer::Granted) => accepted(GRANTED, 0),
+            Ok(Answer::Wait) => accepted(WAIT, 0),
+            Ok(Answer::Done) => accepted(DONE, 0),
+            Ok(Answer::Woke(woken)) => accepted(WOKE, woken),
+        }
+    }
+}
+
 // An event's answer and the next table.
-pub fn event_in_numbers(next: Next) -> Told
-    ensures { result ≡ event_in_numbers (said_of next.answer) next.table }
-{
-    let answer = next.answer;
-    let table = next.table;
-    let told = answer_in_numbers(answer);
-    Told {
-        refusal: told.refusal,
-        said: told.said,
-        woken: told.woken,
-        table,
+impl From<Next> for Told {
+    ghost from_gives = { λ next told. told ≡ event_in_numbers (said_of next.answer) next.table };
+
+    fn from(next: Next) -> Told {
+        let numbers = EventAnswer::from(next.answer);
+        Told {
+            refusal: numbers.refusal,
+            said: numbers.said,
+            woken: numbers.woken,
+            table: next.table,
+        }
     }
 }
 
 // A report's answer.
-pub fn report_in_numbers(reported: Reported) -> JobReport
-    ensures { result ≡ report_in_numbers (report_of reported) }
-{
-    match reported {
-        Reported::No(refusal) => JobReport {
-            refusal: number(refusal),
-            report: Report {
-                turn: Turn(0),
-                token: false,
-                waiting: false,
-                ahead: 0,
-                in_way: 0,
+impl From<Result<Report, Refusal>> for JobReport {
+    ghost from_gives = { λ answer numbers. numbers ≡ report_in_numbers (outcome_of answer) };
+
+    fn from(answer: Result<Report, Refusal>) -> JobReport {
+        match answer {
+            Err(refusal) => JobReport {
+                refusal: u32::from(refusal),
+                report: Report {
+                    turn: Turn(0),
+                    token: false,
+                    waiting: false,
+                    ahead: 0,
+                    in_way: 0,
+                },
             },
-        },
-        Reported::Is(report) => JobReport { refusal: 0, report },
+            Ok(report) => JobReport { refusal: 0, report },
+        }
     }
 }
 
 // The answer to who is overdue.
-pub fn late_in_numbers(late: Late) -> LateJobs
-    ensures { result ≡ late_in_numbers (late_of late) }
-{
-    match late {
-        Late::No(refusal) => LateJobs {
-            refusal: number(refusal),
-            count: 0,
-        },
-        Late::Count(count) => LateJobs { refusal: 0, count },
+impl From<Result<u32, Refusal>> for LateJobs {
+    ghost from_gives = { λ answer numbers. numbers ≡ late_in_numbers (outcome_of answer) };
+
+    fn from(answer: Result<u32, Refusal>) -> LateJobs {
+        match answer {
+            Err(refusal) => LateJobs {
+                refusal: u32::from(refusal),
+                count: 0,
+            },
+            Ok(count) => LateJobs { refusal: 0, count },
+        }
     }
 }
 
 // What saving a table gave.
-pub fn saved_in_numbers(saved: Saved) -> SavedFile
-    ensures { result ≡ saved_in_numbers (saved_of saved) }
-{
-    match saved {
-        Saved::No(refusal) => SavedFile {
-            refusal: number(refusal),
-            length: 0,
-        },
-        Saved::Length(length) => SavedFile { refusal: 0, length },
+impl From<Result<u32, Refusal>> for SavedFile {
+    ghost from_gives = { λ answer numbers. numbers ≡ saved_in_numbers (outcome_of answer) };
+
+    fn from(answer: Result<u32, Refusal>) -> SavedFile {
+        match answer {
+            Err(refusal) => SavedFile {
+                refusal: u32::from(refusal),
+                length: 0,
+            },
+            Ok(length) => SavedFile { refusal: 0, length },
+        }
     }
 }
 
 // What writing a record gave.
-pub fn refusal_in(writing: Writing) -> u32
-    ensures { result ≡ refusal_in (writing_of writing) }
+pub fn refusal_in(written: Result<(), Refusal>) -> u32
+    ensures { result ≡ refusal_in (outcome_of written) }
 {
-    match writing {
-        Writing::No(refusal) => number(refusal),
-        Writing::Done => 0,
+    match written {
+        Err(refusal) => u32::from(refusal),
+        Ok(()) => 0,
     }
 }

@@ -1,11 +1,10 @@
 -- What putting a table's page into a room answers, and what it leaves there.
-use Rattle.std.specs.Prelude.{ℕ, not, List, [], ◌∷◌, ltb, length, Result, Ok, Err}
+use Rattle.std.specs.Prelude.{ℕ, not, List, [], ◌∷◌, ltb, length}
 use Rattle.arbiter.specs.Sound.{sound}
 use Rattle.arbiter.specs.declared.table.Table.{Table}
-use Rattle.event.specs.Refusals.{number_of, refusing}
-use Rattle.event.specs.declared.refusal.Refusal.{Refusal}
+use Rattle.event.specs.Refusals.{refusing}
 use Rattle.event.specs.declared.refusal.Refusal.TheVariants.{UnsoundTable, WrongSize}
-use Rattle.laws.specs.Cases.{Case, Outcome, fine, leaves, outcome, refused}
+use Rattle.laws.specs.Cases.{Case, Outcome, leaves, outcome}
 use Rattle.laws.specs.Front.{over}
 use Rattle.page.specs.Page.{page, page_room}
 
@@ -20,8 +19,3 @@ page_answer t room = outcome (page_cases (length room) t) (length (page t))
 -- the room after it: the page at the front, or all as it was
 unfoldable pub room_after : Table → List ℕ → List ℕ
 room_after t room = leaves (page_cases (length room) t) room (over (page t) room)
-
--- a refusal by its number
-abbrev pub outcome_of : Result ℕ Refusal → Outcome ℕ
-outcome_of (Err r) = refused (number_of r)
-outcome_of (Ok n) = fine n

@@ -7,11 +7,11 @@ pub use Rattle.laws.specs.Cases.{fine, keep_unless, unless}
 pub use Rattle.laws.specs.Chains.{First, none, past, this}
 pub use Rattle.laws.specs.Front.{Wrote, over}
 pub use Rattle.laws.specs.FrontLaws.{laid_front, then, wrote_length}
-pub use Rattle.laws.specs.Determined.{determined, told_apart}
-pub use Rattle.event.specs.Answers.{answer_by}
+pub use Rattle.laws.specs.Determined.{determined}
+pub use Rattle.event.specs.Refusals.{outcome_of}
 pub use Rattle.event.specs.Limits.{jobs}
 pub use Rattle.event.specs.declared.refusal.Refusal.{Refusal}
-pub use Rattle.event.proofs.RefusalLaws.{refusal_of_number_of}
+pub use Rattle.event.proofs.AnswerLaws.{outcome_determined}
 pub use Rattle.decimal.specs.TextLaws.{length_text_u64}
 pub use Rattle.rows.specs.InLine.{length_lined_le, line_below}
 pub use Rattle.rows.specs.Line.{line, row_of}
@@ -19,7 +19,6 @@ pub use Rattle.rows.specs.declared.row.Row.{Row}
 pub use Rattle.line.specs.LineInCode.{Lines}
 pub use Rattle.soundness.specs.declared.Bounds.{Bounds}
 pub use Rattle.pass.specs.Pass.{Surveyed}
-pub use Rattle.sweep.proofs.Jobs.{job_below, job_here, line_fits}
 pub use Rattle.arbiter.specs.Bounded.{bounds_of}
 pub use Rattle.arbiter.specs.ChangeLaws.{sound_by_lem}
 pub use Rattle.arbiter.specs.Sound.{sound}

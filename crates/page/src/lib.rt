@@ -11,7 +11,7 @@ ghost use Rattle.rows.specs.Line.{line};
 ghost use Rattle.page.specs.Page.{head_line, head_room, live_lines, number_room, row_line, row_room, word_and_numbers, word_and_numbers_room};
 ghost use Rattle.page.specs.Promises.{PutPage};
 
-use arbiter::{Table, bounds};
+use arbiter::Table;
 use decimal::put;
 use event::{JOBS, Refusal};
 use line::Line;
@@ -108,7 +108,7 @@ fn put_rows(rows: &[Row; JOBS], line: &Line, out: &mut [u8], at: usize) -> usize
 pub fn put_page(table: &Table, out: &mut [u8]) -> Result<usize, Refusal>
     ensures { PutPage table.now out.old result out.new }
 {
-    let surveyed = survey(table.rows, bounds(*table), 0);
+    let surveyed = survey(&table.rows, table.bounds(), 0);
     if !surveyed.seen.sound {
         return Err(Refusal::UnsoundTable);
     }

@@ -1,8 +1,8 @@
 -- The names from outside that this crate's definitions and proofs use, passed on by one module.
 pub use Rattle.std.specs.Prelude.{◌+◌, ◌<◌, ◌≤◌, suc, zero, ℕ, Bool, ◌&&◌, ◌||◌, false, not, true, List, [], ◌∷◌, ◌≡◌, refl, eqb, leb, ltb, get_or, length}
-pub use Rattle.std.proofs.Common.{suc-le-suc, ◌∙◌, ap, sym, le_of_suc-le-suc, not-suc-le-zero, zero-add, zero-lt-suc, arith, rules, eq-eqb, eqb-true, le-leb, leb-true, lt-ltb, ltb-false, ltb-true, ne_eqb}
+pub use Rattle.std.proofs.Common.{suc-le-suc, ◌∙◌, ap, sym, le_of_suc-le-suc, not-suc-le-zero, zero-add, zero-lt-suc, arith, eq-eqb, eqb-true, le-leb, leb-true, lt-ltb, ltb-false, ltb-true, ne_eqb}
 pub use Rattle.std.proofs.Math.Bool.{and-eq-true_iff, and-false, and-true, or-true}
-pub use Rattle.std.proofs.lemmas.Bool.{false≢true, not-false, not-true}
+pub use Rattle.std.proofs.lemmas.Bool.{false≢true}
 pub use Rattle.std.proofs.Math.Path.{fun_ext}
 pub use Rattle.std.proofs.Math.Decide.{ℕ_discrete}
 pub use Rattle.std.proofs.Math.Arith.{le-zero}

@@ -1,4 +1,3 @@
 -- What is decided of one request.
 pub mod Change
 pub mod Going
-pub mod Prelude

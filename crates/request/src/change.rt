@@ -11,50 +11,51 @@ pub fn opened_row(last: Turn, token: bool, time: u64, set: u64) -> Row
     requires { last.0 < 2 ^ 63 }
     ensures { result ≡ opening last.0 token time set }
 {
-    let turn = Turn(last.0 + 1);
-    let mut row = Row {
-        turn,
+    Row {
+        turn: Turn(last.0 + 1),
         declared: set,
         held: 0,
         asked: 0,
-        since: time,
-    };
-    if token {
-        row.since = 0;
+        since: if token { 0 } else { time },
     }
-    row
 }
 
 // The row of a request that asks: the whole set is held, or, if it is forbidden, the whole set is asked from now on.
 pub fn asked_row(r: Row, forbidden: bool, time: u64, set: u64) -> Row
     ensures { result ≡ asking r forbidden time set }
 {
-    let mut row = r;
     if forbidden {
-        row.asked = set;
-        row.since = time;
-        return row;
+        Row {
+            asked: set,
+            since: time,
+            ..r
+        }
+    } else {
+        Row {
+            held: sets::union(r.held, set),
+            ..r
+        }
     }
-    row.held = sets::union(r.held, set);
-    row
 }
 
 // The row of a request that releases: the members are no longer held.
 pub fn released_row(r: Row, set: u64) -> Row
     ensures { result ≡ releasing r set }
 {
-    let mut row = r;
-    row.held = sets::without(r.held, set);
-    row
+    Row {
+        held: sets::without(r.held, set),
+        ..r
+    }
 }
 
 // The row of a request that gives up: the members are released, and no longer declared either.
 pub fn given_up_row(r: Row, set: u64) -> Row
     ensures { result ≡ giving_up r set }
 {
-    let mut row = released_row(r, set);
-    row.declared = sets::without(r.declared, set);
-    row
+    Row {
+        declared: sets::without(r.declared, set),
+        ..released_row(r, set)
+    }
 }
 
 // Whether a row with this standing, which has a token, waited and need not wait any more: it asks for what nobody before it
@@ -63,21 +64,19 @@ pub fn wakes(r: Row, s: Standing, tokens: u32, up: bool) -> bool
     requires { s.ahead < tokens }
     ensures { result ≡ wakes_by up tokens s r }
 {
-    if sets::meets(s.claims, r.asked) {
-        return false;
-    }
-    (0 < r.asked) | (up & (tokens - s.ahead == 1))
+    !sets::meets(s.claims, r.asked) && ((0 < r.asked) | (up & (tokens - s.ahead == 1)))
 }
 
 // The row of a request that goes on: what it asked for it holds, and it has no waiting time.
 pub fn goes_on(r: Row) -> Row
     ensures { result ≡ goes_on r }
 {
-    let mut row = r;
-    row.held = sets::union(r.held, r.asked);
-    row.asked = 0;
-    row.since = 0;
-    row
+    Row {
+        held: sets::union(r.held, r.asked),
+        asked: 0,
+        since: 0,
+        ..r
+    }
 }
 
 // From which time on a wait up to `time` is shorter than the limit.
@@ -85,10 +84,7 @@ pub fn in_time_from(time: u64, limit: u32) -> u64
     requires { 0 < limit }
     ensures { result ≡ time + 1 - limit }
 {
-    if time < limit as u64 {
-        return 0;
-    }
-    time - limit as u64 + 1
+    time.saturating_sub(u64::from(limit) - 1)
 }
 
 // Whether a live row, with a token or without one, waits, and began to before that time. The times are compared first, since
@@ -96,8 +92,5 @@ pub fn in_time_from(time: u64, limit: u32) -> u64
 pub fn is_late(r: Row, token: bool, from: u64) -> bool
     ensures { result ≡ late_since token from r }
 {
-    if from <= r.since {
-        return false;
-    }
-    !token | (0 < r.asked)
+    r.since < from && (!token | (0 < r.asked))
 }

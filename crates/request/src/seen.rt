@@ -5,6 +5,7 @@ use rows::{Row, Turn};
 // whether its turn holds a token.
 #[derive(Clone, Copy)]
 pub struct Seen {
+    // A flag: refusal 3 is one of the grounds (`entry_cases`), and the theorems speak of `s.sound`.
     pub sound: bool,
     pub resources: u32,
     pub time: u64,

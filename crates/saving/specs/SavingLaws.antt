@@ -1,12 +1,12 @@
 -- The rows still to be written, and the file that they and the head make.
 use Rattle.std.specs.Prelude.{◌+◌, ◌++◌, ◌<◌, ◌∷◌, ◌≡◌, ◌≤◌, Result}
-use Rattle.saving.specs.Prelude.{First, List, Refusal, Row, Table, add-one, ap, arith, drop, drop-cons, get_or, keep_unless, laid, laid_front, laid_laid, leaves_is, length, length-take, length_pack, outcome_is, over, row_of, suc, sym, unless, zero-add, ℕ, ◌∙◌}
+use Rattle.saving.specs.Prelude.{First, List, Refusal, Row, Table, add-one, ap, arith, drop, drop-cons, get_or, keep_unless, laid, laid_front, laid_laid, leaves_is, length, length-take, length_pack, outcome_is, outcome_of, over, row_of, suc, sym, unless, zero-add, ℕ, ◌∙◌}
 use Rattle.service.specs.File.{file, head_bytes, head_of, head_order, head_size, head_widths, row_bytes, row_order, row_size, row_widths, rows_bytes, rows_of, rows_said, say_row, write_cases}
 use Rattle.service.specs.declared.format.FileRow.{FileRow}
 use Rattle.event.specs.Limits.{jobs}
 use Rattle.line.specs.LineInCode.{Lines}
 use Rattle.line.specs.declared.Line.{Line}
-use Rattle.saving.specs.Meaning.{room_after, save_answer, outcome_of}
+use Rattle.saving.specs.Meaning.{room_after, save_answer}
 use Rattle.saving.specs.Promises.{SavedInto}
 
 -- a row is written where the rows left are to go: the others go after it

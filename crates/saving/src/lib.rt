@@ -8,7 +8,7 @@ ghost use Rattle.line.specs.LineInCode.{Lines};
 ghost use Rattle.rows.specs.Line.{line};
 ghost use Rattle.saving.specs.Promises.{SavedInto};
 
-use arbiter::{Table, bounds};
+use arbiter::Table;
 use event::{JOBS, Refusal};
 use line::Line;
 use pass::survey;
@@ -61,7 +61,7 @@ fn put_rows(rows: &[Row; JOBS], along: &Line, room: &mut [u8])
 pub fn save(t: &Table, room: &mut [u8]) -> Result<u32, Refusal>
     ensures { SavedInto t.now room.old result room.new }
 {
-    let surveyed = survey(t.rows, bounds(*t), 0);
+    let surveyed = survey(&t.rows, t.bounds(), 0);
     if !surveyed.seen.sound {
         return Err(Refusal::UnsoundTable);
     }

@@ -1,4 +1,6 @@
 // The numbers of the service file, and its fields by their names.
+ghost use Rattle.std.specs.Prelude.{◌≡◌};
+ghost use Rattle.service.specs.File.{head_named, head_order, row_named, row_order};
 
 // The version that is written, and the only one that is read.
 pub const VERSION: u64 = 1;
@@ -38,4 +40,73 @@ pub struct FileRow {
     pub asked: u64,
     pub since: u64,
     pub zero: u64,
+}
+
+// The fields by their names, and in the order in which they stand.
+impl From<[u64; 8]> for FileHead {
+    ghost from_gives = { λ values head. head ≡ head_named values };
+
+    fn from(values: [u64; 8]) -> FileHead {
+        let [version, tokens, resources, limit, time, last, count, zero] = values;
+        FileHead {
+            version,
+            tokens,
+            resources,
+            limit,
+            time,
+            last,
+            count,
+            zero,
+        }
+    }
+}
+
+impl From<FileHead> for [u64; 8] {
+    ghost from_gives = { λ head values. values ≡ head_order head };
+
+    fn from(head: FileHead) -> [u64; 8] {
+        [
+            head.version,
+            head.tokens,
+            head.resources,
+            head.limit,
+            head.time,
+            head.last,
+            head.count,
+            head.zero,
+        ]
+    }
+}
+
+impl From<[u64; 7]> for FileRow {
+    ghost from_gives = { λ values row. row ≡ row_named values };
+
+    fn from(values: [u64; 7]) -> FileRow {
+        let [job, turn, declared, held, asked, since, zero] = values;
+        FileRow {
+            job,
+            turn,
+            declared,
+            held,
+            asked,
+            since,
+            zero,
+        }
+    }
+}
+
+impl From<FileRow> for [u64; 7] {
+    ghost from_gives = { λ row values. values ≡ row_order row };
+
+    fn from(row: FileRow) -> [u64; 7] {
+        [
+            row.job,
+            row.turn,
+            row.declared,
+            row.held,
+            row.asked,
+            row.since,
+            row.zero,
+        ]
+    }
 }

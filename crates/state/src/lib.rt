@@ -3,11 +3,11 @@
 
 ghost use Rattle.std.specs.Prelude.{◌≤◌};
 
-use arbiter::{Late, Report, Reported, Table, bounds};
+use arbiter::{Report, Table};
 use asking::{overdue, report};
 use event::{JOBS, Tick};
 use follow::listed;
-use page::{PAGE, Shown, put_page};
+use page::{PAGE, put_page};
 use pass::survey;
 use stream::Printer;
 use words::jobs;
@@ -42,7 +42,7 @@ fn reported(printer: &mut Printer<impl Print + Eprint>, report: Report)
 fn job_line(printer: &mut Printer<impl Print + Eprint>, table: &Table, job: u8)
     ensures { printer.old.failures ≤ printer.new.failures }
 {
-    let Reported::Is(known) = report(*table, job as u32) else {
+    let Ok(known) = report(table, job as u32) else {
         return;
     };
     printer.word(b"job ", job as u64);
@@ -54,7 +54,7 @@ fn job_line(printer: &mut Printer<impl Print + Eprint>, table: &Table, job: u8)
 fn job_lines(printer: &mut Printer<impl Print + Eprint>, table: &Table)
     ensures { printer.old.failures ≤ printer.new.failures }
 {
-    let line = survey(table.rows, bounds(*table), 0).line;
+    let line = survey(&table.rows, table.bounds(), 0).line;
     for job in &line.jobs[..line.len.min(JOBS)] {
         job_line(printer, table, *job);
     }
@@ -67,10 +67,10 @@ fn late_line(printer: &mut Printer<impl Print + Eprint>, table: &Table)
     let mut list = [0u8; JOBS];
     let tick = Tick((table.time % WRAP) as u32);
     printer.text(b"overdue: ");
-    match overdue(*table, tick, &mut list) {
-        Late::No(_) => {}
-        Late::Count(0) => printer.text(b"nobody"),
-        Late::Count(count) => jobs(printer, listed(&list, count)),
+    match overdue(table, tick, &mut list) {
+        Ok(0) => printer.text(b"nobody"),
+        Ok(count) => jobs(printer, listed(&list, count)),
+        Err(_) => {}
     }
     printer.text(b"\n");
 }
@@ -80,10 +80,10 @@ fn page_of(printer: &mut Printer<impl Print + Eprint>, table: &Table)
     ensures { printer.old.failures ≤ printer.new.failures }
 {
     let mut page = [0u8; PAGE];
-    match put_page(*table, &mut page) {
-        Shown::No(_) => {}
-        Shown::Length(count) => printer.text(page.get(..count).unwrap_or(b"")),
-    }
+    let Ok(count) = put_page(table, &mut page) else {
+        return;
+    };
+    printer.text(page.get(..count).unwrap_or(b""));
 }
 
 // The table after so many records: its lines, what is reported of each live job, and who is overdue.

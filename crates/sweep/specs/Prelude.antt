@@ -1,7 +1,7 @@
 -- The names from outside that this crate's definitions and proofs use, passed on by one module.
 pub use Rattle.std.specs.Prelude.{◌+◌, ◌-◌, ◌<◌, ◌^◌, ◌≤◌, suc, zero, ℕ, Bool, ◌&&◌, ◌||◌, cond, false, not, true, List, [], ◌++◌, ◌∷◌, ◌≢◌, ◌⊎◌, ◌≡◌, refl, eqb, leb, ltb, drop, get_or, length, set, take}
 pub use Rattle.std.proofs.Math.Bool.{and-false, and-true, or_comm}
-pub use Rattle.std.proofs.Common.{append-nil, inl, inr, ⊎_elim, ◌∙◌, ap, subst, sym, add-zero, le_antisymm, le_of_suc-le-suc, not-suc-le-zero, add-one, arith, rules, eq-eqb, eqb-true, le-ltb, leb-true, lt-ltb, ltb-false, ltb-true, ne_eqb, drop_of_length-le, length-set, take-append-drop, drop-cons, drop-drop, drop-set-lt, ext_get_or, get_or-set_other, get_or-set_same, get_or-take, length-take-le, take-suc-set}
+pub use Rattle.std.proofs.Common.{append-nil, inl, inr, ⊎_elim, ◌∙◌, ap, subst, sym, add-zero, le_antisymm, le_of_suc-le-suc, not-suc-le-zero, add-one, arith, eq-eqb, eqb-true, le-ltb, leb-true, lt-ltb, ltb-false, ltb-true, ne_eqb, drop_of_length-le, length-set, take-append-drop, drop-cons, drop-drop, drop-set-lt, ext_get_or, get_or-set_other, get_or-set_same, length-take-le, take-suc-set}
 pub use Rattle.std.proofs.Math.Decide.{ℕ_discrete}
 pub use Rattle.std.proofs.Math.Arith.{le-zero}
 pub use Rattle.std.proofs.Math.Seq.{append_snoc}

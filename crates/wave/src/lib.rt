@@ -4,6 +4,7 @@
 mod changes;
 mod dump;
 mod header;
+mod variables;
 
-pub use changes::{Trace, end, next};
+pub use changes::{Trace, end};
 pub use header::first;

@@ -2,8 +2,7 @@
 ghost use Rattle.std.specs.Prelude.{◌≤◌};
 
 use crate::lists::set;
-use event::{Entry, Kind, Parts, Start, Tick, parts_of, shape_of};
-use record::Reading;
+use event::{Entry, Kind, Parts, Refusal, Start, Tick};
 use stream::Printer;
 
 // The tick of a record, and the true time after it.
@@ -30,7 +29,7 @@ fn words_of(kind: Kind) -> &'static [u8] {
 fn event(printer: &mut Printer<impl Print + Eprint>, parts: Parts, time: u64)
     ensures { printer.old.failures ≤ printer.new.failures }
 {
-    let shape = shape_of(parts.kind);
+    let shape = parts.kind.shape();
     times(printer, parts.tick, time);
     printer.text(words_of(parts.kind));
     if shape.job {
@@ -61,12 +60,12 @@ fn unreadable(printer: &mut Printer<impl Print + Eprint>, time: u64)
 }
 
 // What a record asks for, with its tick and the true time after it.
-pub fn what(printer: &mut Printer<impl Print + Eprint>, reading: Reading, time: u64)
+pub fn what(printer: &mut Printer<impl Print + Eprint>, reading: Result<Entry, Refusal>, time: u64)
     ensures { printer.old.failures ≤ printer.new.failures }
 {
     match reading {
-        Reading::No(_) => unreadable(printer, time),
-        Reading::Got(Entry::Start(begun)) => start(printer, begun, time),
-        Reading::Got(Entry::Event(asked)) => event(printer, parts_of(asked), time),
+        Err(_) => unreadable(printer, time),
+        Ok(Entry::Start(begun)) => start(printer, begun, time),
+        Ok(Entry::Event(asked)) => event(printer, Parts::from(asked), time),
     }
 }

@@ -45,7 +45,7 @@ pub fn reason(printer: &mut Printer<impl Print + Eprint>, refusal: Refusal)
 pub fn refused(printer: &mut Printer<impl Print + Eprint>, refusal: Refusal)
     ensures { printer.old.failures ≤ printer.new.failures }
 {
-    printer.word(b"refused as ", event::number(refusal) as u64);
+    printer.word(b"refused as ", u32::from(refusal) as u64);
     printer.text(b", ");
     reason(printer, refusal);
 }

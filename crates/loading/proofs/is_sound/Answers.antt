@@ -5,5 +5,5 @@ use Rattle.loading.proofs.is_sound.Goals as goal
 
 pub returns : goal.returns
 returns c =
-    let t = c.args.t in
-    c.survey-surveyed.ensures.told ∙ ap (λ (b : Bounds). sound_by b t.rows) c.bounds.ensures ∙ sound_by_lem t
+    let t = c.args.t.now in
+    c.survey.ensures.told ∙ ap (λ (b : Bounds). sound_by b t.rows) c.bounds.ensures ∙ sound_by_lem t

@@ -1,5 +1,5 @@
 -- The loop keeps that what was taken and what is left come to what all rows of the file do.
-use Rattle.std.specs.Prelude.{◌*◌, ◌-◌, ◌≤◌}
+use Rattle.std.specs.Prelude.{◌*◌, ◌-◌}
 use Rattle.loading.specs.Prelude.{FileRow, List, ℕ, drop}
 use Rattle.service.specs.File.{head_size, row_size, rows_in}
 use Rattle.loading.specs.Taking.{Taking}
@@ -11,7 +11,4 @@ left_in file count i = rows_in (count - i) (drop (row_size * i) (drop head_size 
 
 abbrev pub invariant-loop-i : goal.invariant-loop-i
 invariant-loop-i l =
-    (l.i ≤ l.count) × Taking (rows_in l.count (drop head_size l.file)) (left_in l.file l.count l.i) l.rows l.fits l.stray l.passed.0
-
-abbrev pub decreases-loop-i : goal.decreases-loop-i
-decreases-loop-i l = l.count - l.i
+    Taking (rows_in l.count (drop head_size l.file)) (left_in l.file l.count l.i) l.rows l.fits l.passed.0

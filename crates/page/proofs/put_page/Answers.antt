@@ -1,7 +1,7 @@
 -- The two tests are the two cases, in their order; the first line and the rows after it are the page.
 use Rattle.std.specs.Prelude.{◌≡◌, Ok, Result}
-use Rattle.page.specs.Prelude.{Bounds, First, Lines, List, Refusal, Surveyed, Table, Wrote, ◌∙◌, ap, arith, bounds_of, fine, keep_unless, laid_front, leaves_is, le-ltb, length, lt-ltb, none, not, outcome_is, over, past, refl, sound, sound_by_lem, subst, sym, then, this, unless, wrote_length, zero-add, ℕ}
-use Rattle.page.specs.Meaning.{page_answer, page_cases, room_after, outcome_of}
+use Rattle.page.specs.Prelude.{Bounds, First, Lines, List, Refusal, Surveyed, Table, Wrote, ◌∙◌, ap, arith, bounds_of, fine, keep_unless, laid_front, leaves_is, le-ltb, length, lt-ltb, none, not, outcome_is, outcome_of, over, past, refl, sound, sound_by_lem, subst, sym, then, this, unless, wrote_length, zero-add, ℕ}
+use Rattle.page.specs.Meaning.{page_answer, page_cases, room_after}
 use Rattle.page.specs.Page.{page}
 use Rattle.page.specs.Promises.{PutPage}
 use Rattle.page.proofs.put_page.Goals as goal

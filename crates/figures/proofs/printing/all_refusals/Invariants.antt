@@ -1,9 +1,6 @@
 -- No failure is forgotten.
-use Rattle.std.specs.Prelude.{◌-◌, ◌≤◌}
+use Rattle.std.specs.Prelude.{◌≤◌}
 use Rattle.figures.proofs.printing.all_refusals.Given as goal
 
 abbrev pub invariant-loop-number : goal.invariant-loop-number
-invariant-loop-number g l = l.initial.told.failures ≤ l.told.failures
-
-abbrev pub decreases-loop-number : goal.decreases-loop-number
-decreases-loop-number g l = 23 - l.number
+invariant-loop-number g l = l.initial.printer.failures ≤ l.printer.failures

@@ -4,7 +4,7 @@ use Rattle.questions.specs.Prelude.{◌∙◌, arith, get_or, length, line, sym,
 use Rattle.questions.specs.InCode.{claims_ahead}
 use Rattle.questions.specs.QuestionLaws.{in_way_line}
 use Rattle.questions.proofs.Counting.{counting_end, counting_fits, counting_none, counting_one, counting_start}
-use Rattle.sweep.proofs.Jobs.{entries, entry_below, entry_here, line_fits}
+use Rattle.sweep.proofs.Jobs.{entries, entries_fit, entry_below, entry_here}
 use Rattle.questions.proofs.along.in_way.Goals as goal
 use Rattle.questions.proofs.along.in_way.Goals.{In-loop-job, else-earlier-meets, then-earlier-meets}
 
@@ -16,7 +16,7 @@ bounds-rows-job c = entry_below c.args.rows.now c.requires c.told-rows c.loop-jo
 
 pub overflow_add-n : goal.overflow_add-n
 overflow_add-n c =
-    omega (arith, counting_fits c.loop-job.invariant, line_fits c.args.rows.now c.requires c.told-rows, c.requires.number)
+    omega (arith, counting_fits c.loop-job.invariant, entries c.args.rows.now c.requires, entries_fit c.args.rows.now c.requires c.told-rows)
 
 pub loop-job-preserved : goal.loop-job-preserved
 loop-job-preserved c =

@@ -2,7 +2,7 @@
 -- the rest is as it was.
 use Rattle.std.specs.Prelude.{◌<◌, ◌≡◌}
 use Rattle.questions.specs.Prelude.{ap, arith, drop_of_length-le, get_or, keep, length, line, sym, take, ◌∙◌}
-use Rattle.sweep.proofs.Jobs.{entries, entry_below, entry_here, line_fits}
+use Rattle.sweep.proofs.Jobs.{entries, entries_fit, entry_below, entry_here}
 use Rattle.sweep.proofs.Writing.{writing_done, writing_passed, writing_written}
 use Rattle.questions.proofs.along.list_where.Goals as goal
 use Rattle.questions.proofs.along.list_where.Goals.{else-test, then-test}
@@ -13,11 +13,11 @@ bounds-rows-job g c =
 
 pub bounds-list-n : goal.bounds-list-n
 bounds-list-n g c =
-    omega (arith, entries c.args.rows.now c.requires.lines, line_fits c.args.rows.now c.requires.lines c.told-rows, c.requires.lines.number, c.loop-place.invariant.1, c.loop-place-test.true)
+    omega (arith, entries_fit c.args.rows.now c.requires.lines c.told-rows, c.loop-place.invariant.1, c.loop-place-test.true)
 
 pub overflow_add-n : goal.overflow_add-n
 overflow_add-n g c =
-    omega (arith, entries c.args.rows.now c.requires.lines, line_fits c.args.rows.now c.requires.lines c.told-rows, c.requires.lines.number, c.loop-place.invariant.1, c.loop-place-test.true)
+    omega (arith, entries_fit c.args.rows.now c.requires.lines c.told-rows, c.loop-place.invariant.1, c.loop-place-test.true)
 
 pub loop-place-preserved : goal.loop-place-preserved
 loop-place-preserved g c =
@@ -27,7 +27,7 @@ loop-place-preserved g c =
     let placed : l.place < length (line rows) = omega (arith, entries rows c.requires.lines, c.loop-place-test.true) in
     let here = entry_here rows c.requires.lines l.place in
     let room : l.n < length l.list =
-    omega (arith, entries rows c.requires.lines, line_fits rows c.requires.lines c.told-rows, c.requires.lines.number, l.invariant.1, c.loop-place-test.true) in (
+    omega (arith, entries_fit rows c.requires.lines c.told-rows, l.invariant.1, c.loop-place-test.true) in (
       l.invariant.0,
       elim c.if-test.branch [
         | then-test w ↦ rw w.n-is (omega arith)
@@ -44,7 +44,7 @@ loop-place-preserved g c =
 
 pub overflow_cast-result : goal.overflow_cast-result
 overflow_cast-result g c =
-    omega (arith, entries c.args.rows.now c.requires.lines, line_fits c.args.rows.now c.requires.lines c.told-rows, c.requires.lines.number, c.loop-place.invariant.1)
+    omega (arith, entries_fit c.args.rows.now c.requires.lines c.told-rows, c.loop-place.invariant.1)
 
 pub returns : goal.returns
 unfolding keep
@@ -53,4 +53,4 @@ returns g c = λ f decides.
     let rows = c.args.rows.now in
     writing_done (l.invariant.2 f decides)
     (ap (keep f) (drop_of_length-le (line rows) {i = l.place} (omega (arith, entries rows c.requires.lines, c.loop-place-test.false))))
-    (omega (arith, entries rows c.requires.lines, line_fits rows c.requires.lines c.told-rows, c.requires.lines.number, l.invariant.1))
+    (omega (arith, entries_fit rows c.requires.lines c.told-rows, l.invariant.1))

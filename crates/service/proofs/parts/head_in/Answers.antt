@@ -4,6 +4,4 @@ use Rattle.service.specs.FieldsIn.{head_read}
 use Rattle.service.proofs.parts.head_in.Goals as goal
 
 pub returns : goal.returns
-returns c =
-    let read = c.read_all in
-    head_read c.args.bytes.now _ _ (omega arith) read.ensures
+returns c = rw c.from.ensures (head_read c.args.bytes.now _ _ (omega arith) c.read_all.ensures)

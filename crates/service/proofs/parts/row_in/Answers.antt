@@ -4,6 +4,4 @@ use Rattle.service.specs.FieldsIn.{row_read}
 use Rattle.service.proofs.parts.row_in.Goals as goal
 
 pub returns : goal.returns
-returns c =
-    let read = c.read_all in
-    row_read c.args.bytes.now _ _ (omega arith) read.ensures
+returns c = rw c.from.ensures (row_read c.args.bytes.now _ _ (omega arith) c.read_all.ensures)

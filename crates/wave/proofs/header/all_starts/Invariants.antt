@@ -1,9 +1,6 @@
 -- No failure is forgotten.
-use Rattle.std.specs.Prelude.{◌-◌, ◌≤◌}
+use Rattle.std.specs.Prelude.{◌≤◌}
 use Rattle.wave.proofs.header.all_starts.Given as goal
 
 abbrev pub invariant-loop-job : goal.invariant-loop-job
-invariant-loop-job g l = l.initial.told.failures ≤ l.told.failures
-
-abbrev pub decreases-loop-job : goal.decreases-loop-job
-decreases-loop-job g l = 64 - l.job
+invariant-loop-job g l = l.initial.printer.failures ≤ l.printer.failures

@@ -1,6 +1,0 @@
--- The loop counts to its end.
-use Rattle.std.specs.Prelude.{◌-◌}
-use Rattle.figures.proofs.counting.count_woken.Given as goal
-
-abbrev pub decreases-loop-i : goal.decreases-loop-i
-decreases-loop-i l = l.end - l.i

@@ -1,9 +1,0 @@
--- No failure is forgotten.
-use Rattle.std.specs.Prelude.{◌-◌, ◌≤◌}
-use Rattle.figures.proofs.printing.mask.Given as goal
-
-abbrev pub invariant-loop-i : goal.invariant-loop-i
-invariant-loop-i g l = l.initial.told.failures ≤ l.told.failures
-
-abbrev pub decreases-loop-i : goal.decreases-loop-i
-decreases-loop-i g l = 64 - l.i

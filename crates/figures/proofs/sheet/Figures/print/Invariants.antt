@@ -1,0 +1,6 @@
+-- No failure is forgotten.
+use Rattle.std.specs.Prelude.{◌≤◌}
+use Rattle.figures.proofs.sheet.Figures.print.Given as goal
+
+abbrev pub invariant-loop-job : goal.invariant-loop-job
+invariant-loop-job g l = l.initial.printer.failures ≤ l.printer.failures

@@ -1,2 +1,0 @@
--- Laws of the calls that may wake others.
-pub mod WakingLaws

@@ -1,2 +1,0 @@
--- The names from outside that this crate's proofs use, passed on by one module.
-pub use Rattle.std.proofs.Common.{◌∙◌, ap}

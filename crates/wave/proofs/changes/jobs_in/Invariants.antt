@@ -1,0 +1,6 @@
+-- No failure is forgotten.
+use Rattle.std.specs.Prelude.{◌≤◌}
+use Rattle.wave.proofs.changes.jobs_in.Given as goal
+
+abbrev pub invariant-loop-job : goal.invariant-loop-job
+invariant-loop-job g l = l.initial.printer.failures ≤ l.printer.failures
