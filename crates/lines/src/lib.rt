@@ -74,10 +74,8 @@ fn put_word(answer: Result<Answer, Refusal>, woken: &[u8; JOBS], out: &mut [u8],
 {
     match answer {
         Err(refusal) => put_no(u32::from(refusal), out, at),
-        Ok(Answer::Token) => put(b" ok", out, at),
-        Ok(Answer::Granted) => put(b" ok", out, at),
+        Ok(Answer::Token | Answer::Granted | Answer::Done) => put(b" ok", out, at),
         Ok(Answer::Wait) => put(b" wait", out, at),
-        Ok(Answer::Done) => put(b" ok", out, at),
         Ok(Answer::Woke(count)) => put_ok(woken, count, out, at),
     }
 }
