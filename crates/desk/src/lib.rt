@@ -8,6 +8,7 @@ ghost use Rattle.page.specs.Page.{word_and_numbers, word_and_numbers_room};
 ghost use Rattle.desk.specs.Promises.{Shows};
 
 use event::Refusal;
+use lines::Text;
 use loading::table_in;
 use page::{PAGE, put_page, put_word_and_numbers};
 
@@ -16,7 +17,9 @@ pub fn put_refusal(words: &[u8], refusal: Refusal, out: &mut [u8]) -> usize
     requires { word_and_numbers_room (length words.now) 1 ≤ length out.old }
     ensures { Wrote out.old 0 (word_and_numbers words.now (number_of refusal ∷ [])) result out.new }
 {
-    put_word_and_numbers(words, &[u64::from(u32::from(refusal))], out, 0)
+    let mut line = Text { out, at: 0 };
+    put_word_and_numbers(&mut line, words, &[u64::from(u32::from(refusal))]);
+    line.at
 }
 
 // Puts what is shown of a service file at the front of out: the page of its table, or `no` and the number of the refusal.

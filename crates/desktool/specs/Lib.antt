@@ -1,2 +1,3 @@
--- What the proofs of this crate use.
+-- What the contracts of this crate say.
+pub mod Following
 pub mod Prelude

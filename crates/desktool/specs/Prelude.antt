@@ -1,4 +1,3 @@
 -- The names from outside that this crate's proofs use, passed on by one module.
-pub use Rattle.std.specs.Prelude.{◌-◌, ◌≤◌, length}
 pub use Rattle.std.proofs.Common.{arith}
 pub use Rattle.recording.proofs.RecordingLaws.{place_moves}

@@ -3,4 +3,5 @@ pub mod Lines
 pub mod PieceLaws
 pub mod Prelude
 pub mod Promises
+pub mod Texts
 pub mod WordLaws

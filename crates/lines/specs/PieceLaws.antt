@@ -1,17 +1,23 @@
 -- Texts that are put together piece by piece, and loops that put one piece after the other.
 use Rattle.std.specs.Prelude.{◌*◌, ◌+◌, ◌++◌, ◌<◌, ◌∷◌, ◌≡◌, ◌≤◌}
-use Rattle.lines.specs.Prelude.{List, Wrote, [], add-one, append_assoc, append-nil, arith, ascii, get_or, length, refl, subst, sym, take, take_all, take-suc, text, then, wrote_length, wrote_none, ℕ}
+use Rattle.lines.specs.Prelude.{List, Wrote, [], add-one, append_assoc, append-nil, arith, ascii, get_or, length, refl, subst, sym, take, take_all, take-suc, text, then as wrote_then, wrote_length, ◌∙◌, wrote_none, ℕ}
 use Rattle.lines.specs.Lines.{items}
+use Rattle.lines.specs.Texts.{Puts}
+use Rattle.lines.specs.declared.text.Text.{Text}
 
 -- The text of a list is the piece of each element, one after the other.
 pub record Pieces {A : Type 0} (piece : A → List ℕ) (whole : List A → List ℕ) : Type 0 where
   pub empty : whole [] ≡ []
   pub first : (x : A) (xs : List A) → whole (x ∷ xs) ≡ piece x ++ whole xs
 
--- The pieces of the first i elements were put into `before` from k on, none longer than `most`.
-pub record Putting {A : Type 0} (whole : List A → List ℕ) (l : List A) (most : ℕ) (before : List ℕ) (k i end : ℕ) (after : List ℕ) : Type 0 where
-  pub wrote : Wrote before k (whole (take i l)) end after
-  pub within : end ≤ k + most * i
+-- The pieces of the first i elements were put, none longer than `most`.
+pub record Putting {A : Type 0} (whole : List A → List ℕ) (l : List A) (most : ℕ) (before : Text) (i : ℕ) (after : Text) : Type 0 where
+  pub puts : Puts before (whole (take i l)) after
+  pub within : after.at ≤ before.at + most * i
+
+-- one text after another
+pub then : {s t : List ℕ} {before middle after : Text} → Puts before s middle → Puts middle t after → Puts before (s ++ t) after
+then p q = record { same = q.same ∙ p.same; wrote = wrote_then p.wrote q.wrote }
 
 module _ {A : Type 0} {piece : A → List ℕ} {whole : List A → List ℕ} (pieces : Pieces piece whole) where
   whole_append : (xs ys : List A) → whole (xs ++ ys) ≡ whole xs ++ whole ys
@@ -25,32 +31,34 @@ module _ {A : Type 0} {piece : A → List ℕ} {whole : List A → List ℕ} (pi
       rw (add-one i, take-suc l i d h, whole_append (take i l) (get_or l i d ∷ []), pieces.first (get_or l i d) [], pieces.empty, append-nil)
 
   -- nothing is put yet
-  pub putting_none : (l : List A) (most : ℕ) (before : List ℕ) (k : ℕ) → k ≤ length before → Putting whole l most before k 0 k before
-  putting_none l most before k h =
+  pub putting_none : (l : List A) (most : ℕ) (before : Text) → before.at ≤ length before.out.now → Putting whole l most before 0 before
+  putting_none l most before h =
       record {
-        wrote = subst (λ (s : List ℕ). Wrote before k s k before) (sym pieces.empty) (wrote_none before k h);
+        puts = record {
+          same = refl;
+          wrote = subst (λ (s : List ℕ). Wrote before.out.now before.at s before.at before.out.now) (sym pieces.empty) (wrote_none before.out.now before.at h);
+        };
         within = omega arith;
       }
 
   -- the piece of the next element was put
   pub putting_more :
-      {l : List A} {most : ℕ} {before middle after : List ℕ} {k i end next : ℕ} {x : A} (d : A) → i < length l → get_or l i d ≡ x →
-      Putting whole l most before k i end middle → Wrote middle end (piece x) next after → next ≤ end + most →
-      Putting whole l most before k (i + 1) next after
+      {l : List A} {most : ℕ} {before now next : Text} {i : ℕ} {x : A} (d : A) → i < length l → get_or l i d ≡ x →
+      Putting whole l most before i now → Puts now (piece x) next → next.at ≤ now.at + most → Putting whole l most before (i + 1) next
   putting_more {l = l} {i = i} d h here p w bound =
       record {
-        wrote = rw (whole_more l i d h, here) (then p.wrote w);
+        puts = rw (whole_more l i d h, here) (then p.puts w);
         within = omega (arith, p.within, bound);
       }
 
-module _ {A : Type 0} {whole : List A → List ℕ} {l : List A} {most : ℕ} {before after : List ℕ} {k i end : ℕ} (p : Putting whole l most before k i end after) where
-  -- the room is as long as it was
-  pub putting_length : length after ≡ length before
-  putting_length = wrote_length p.wrote
+module _ {A : Type 0} {whole : List A → List ℕ} {l : List A} {most : ℕ} {before after : Text} {i : ℕ} (p : Putting whole l most before i after) where
+  -- the buffer is as long as it was
+  pub putting_length : length after.out.now ≡ length before.out.now
+  putting_length = wrote_length p.puts.wrote
 
   -- all were put
-  pub putting_all : length l ≤ i → Wrote before k (whole l) end after
-  putting_all h = subst (λ (xs : List A). Wrote before k (whole xs) end after) (take_all i l h) p.wrote
+  pub putting_all : length l ≤ i → Puts before (whole l) after
+  putting_all h = subst (λ (xs : List A). Puts before (whole xs) after) (take_all i l h) p.puts
 
 -- a number after a space is a piece of items
 pub item_pieces : Pieces (λ n. ascii " " ++ text n) items

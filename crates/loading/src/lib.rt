@@ -5,7 +5,7 @@ ghost use Rattle.std.specs.Prelude.{◌+◌, ◌*◌, ◌≤◌, ◌≡◌, drop
 ghost use Rattle.arbiter.specs.Sound.{sound};
 ghost use Rattle.event.specs.Refusals.{outcome_of};
 ghost use Rattle.fields.specs.Fields.{Fit};
-ghost use Rattle.service.specs.File.{head_order, head_size, head_widths, row_said, row_size, rows_in, table_of, table_read};
+ghost use Rattle.service.specs.File.{head_order, head_size, head_widths, row_size, rows_in, table_of, table_read};
 ghost use Rattle.service.specs.Promises.{ReadRow};
 ghost use Rattle.loading.specs.Promises.{Loaded};
 ghost use Rattle.loading.specs.Taking.{rows_taken};
@@ -22,19 +22,6 @@ fn is_sound(t: &Table) -> bool
     ensures { result ≡ sound t.now }
 {
     survey(&t.rows, t.bounds(), 0).seen.sound
-}
-
-// The row that a row of a file describes.
-fn row_said(f: FileRow) -> Row
-    ensures { result ≡ row_said f }
-{
-    Row {
-        turn: Turn(f.turn),
-        declared: f.declared,
-        held: f.held,
-        asked: f.asked,
-        since: f.since,
-    }
 }
 
 // Row i of a file.
@@ -59,7 +46,7 @@ fn take_rows(file: &[u8], count: usize) -> Result<[Row; JOBS], Refusal>
         if 0 < said.zero {
             return Err(Refusal::BitSet);
         }
-        let row = row_said(said);
+        let row = Row::from(said);
         let job = said.job as usize;
         fits &= earlier(passed, row.turn) & !live(rows[job]);
         passed = row.turn;

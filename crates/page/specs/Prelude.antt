@@ -6,7 +6,7 @@ pub use Rattle.laws.specs.CaseLaws.{leaves_is, outcome_is}
 pub use Rattle.laws.specs.Cases.{fine, keep_unless, unless}
 pub use Rattle.laws.specs.Chains.{First, none, past, this}
 pub use Rattle.laws.specs.Front.{Wrote, over}
-pub use Rattle.laws.specs.FrontLaws.{laid_front, then, wrote_length}
+pub use Rattle.laws.specs.FrontLaws.{laid_front, wrote_length}
 pub use Rattle.laws.specs.Determined.{determined}
 pub use Rattle.event.specs.Refusals.{outcome_of}
 pub use Rattle.event.specs.Limits.{jobs}
@@ -24,4 +24,4 @@ pub use Rattle.arbiter.specs.ChangeLaws.{sound_by_lem}
 pub use Rattle.arbiter.specs.Sound.{sound}
 pub use Rattle.arbiter.specs.declared.table.Table.{Table}
 pub use Rattle.lines.specs.Lines.{items}
-pub use Rattle.lines.specs.PieceLaws.{Pieces, Putting, item_pieces, putting_all, putting_length, putting_more, putting_none}
+pub use Rattle.lines.specs.PieceLaws.{Pieces, Putting, item_pieces, putting_all, putting_length, putting_more, putting_none, then}

@@ -1,21 +1,19 @@
 // The page of a table: a line of its numbers, then a line for each live row, put into a lent room.
 #![tactic(auto)]
 
-ghost use Rattle.std.specs.Prelude.{◌+◌, ◌*◌, ◌≤◌, ◌++◌, ◌≡◌, length};
-ghost use Rattle.decimal.specs.Text.{ascii, text};
+ghost use Rattle.std.specs.Prelude.{◌+◌, ◌*◌, ◌≤◌, ◌≡◌, length};
 ghost use Rattle.event.specs.Limits.{jobs};
-ghost use Rattle.laws.specs.Front.{Wrote};
 ghost use Rattle.line.specs.LineInCode.{Lines};
 ghost use Rattle.lines.specs.Lines.{items};
+ghost use Rattle.lines.specs.Texts.{Puts, Room};
 ghost use Rattle.rows.specs.Line.{line};
 ghost use Rattle.page.specs.Page.{head_line, head_room, live_lines, number_room, row_line, row_room, word_and_numbers, word_and_numbers_room};
 ghost use Rattle.page.specs.Promises.{PutPage};
 
 use arbiter::Table;
-use decimal::put;
 use event::{JOBS, Refusal};
 use line::Line;
-use lines::put_number;
+use lines::Text;
 use pass::survey;
 use rows::Row;
 
@@ -23,45 +21,34 @@ use rows::Row;
 // takes a space and at most 20 digits.
 pub const PAGE: usize = 132 + 130 * JOBS;
 
-// Puts a space and then a number.
-fn put_spaced(n: u64, out: &mut [u8], at: usize) -> usize
-    requires { at + number_room ≤ length out.old }
-    ensures wrote { Wrote out.old at (ascii " " ++ text n) result out.new }
-    ensures upper_bound { result ≤ at + number_room }
-{
-    put_number(b" ", n, out, at)
-}
-
 // Puts a space before each number.
-fn put_numbers(numbers: &[u64], out: &mut [u8], at: usize) -> usize
-    requires { at + number_room * length numbers.now ≤ length out.old }
-    ensures wrote { Wrote out.old at (items numbers.now) result out.new }
-    ensures upper_bound { result ≤ at + number_room * length numbers.now }
+fn put_numbers(page: &mut Text, numbers: &[u64])
+    requires { Room page.old (number_room * length numbers.now) }
+    ensures puts { Puts page.old (items numbers.now) page.new }
+    ensures upper_bound { page.new.at ≤ page.old.at + number_room * length numbers.now }
 {
-    let mut end = at;
     for &n in numbers {
-        end = put_spaced(n, out, end);
+        page.word(b" ", n);
     }
-    end
 }
 
 // Puts a line: a word, and a space before each number.
-pub fn put_word_and_numbers(word: &[u8], numbers: &[u64], out: &mut [u8], at: usize) -> usize
-    requires { at + word_and_numbers_room (length word.now) (length numbers.now) ≤ length out.old }
-    ensures wrote { Wrote out.old at (word_and_numbers word.now numbers.now) result out.new }
-    ensures upper_bound { result ≤ at + word_and_numbers_room (length word.now) (length numbers.now) }
+pub fn put_word_and_numbers(page: &mut Text, word: &[u8], numbers: &[u64])
+    requires { Room page.old (word_and_numbers_room (length word.now) (length numbers.now)) }
+    ensures puts { Puts page.old (word_and_numbers word.now numbers.now) page.new }
+    ensures upper_bound { page.new.at ≤ page.old.at + word_and_numbers_room (length word.now) (length numbers.now) }
 {
-    let next = put(word, out, at);
-    let end = put_numbers(numbers, out, next);
-    put(b"\n", out, end)
+    page.put(word);
+    put_numbers(page, numbers);
+    page.put(b"\n");
 }
 
-// Puts the first line of a table with this many live rows at the front of out.
-fn put_head(t: &Table, live: usize, out: &mut [u8]) -> usize
+// Puts the first line of a table with this many live rows.
+fn put_head(page: &mut Text, t: &Table, live: usize)
     requires live_value { live ≡ length (line t.now.rows) }
-    requires head_room_in_bounds { head_room ≤ length out.old }
-    ensures wrote { Wrote out.old 0 (head_line t.now) result out.new }
-    ensures upper_bound { result ≤ head_room }
+    requires room { Room page.old head_room }
+    ensures puts { Puts page.old (head_line t.now) page.new }
+    ensures upper_bound { page.new.at ≤ page.old.at + head_room }
 {
     let numbers = [
         t.tokens as u64,
@@ -71,14 +58,14 @@ fn put_head(t: &Table, live: usize, out: &mut [u8]) -> usize
         t.last.0,
         live as u64,
     ];
-    put_word_and_numbers(b"table", &numbers, out, 0)
+    put_word_and_numbers(page, b"table", &numbers);
 }
 
 // Puts the line of a job's row.
-fn put_row(job: u8, row: &Row, out: &mut [u8], at: usize) -> usize
-    requires { at + row_room ≤ length out.old }
-    ensures wrote { Wrote out.old at (row_line job row.now) result out.new }
-    ensures upper_bound { result ≤ at + row_room }
+fn put_row(page: &mut Text, job: u8, row: &Row)
+    requires { Room page.old row_room }
+    ensures puts { Puts page.old (row_line job row.now) page.new }
+    ensures upper_bound { page.new.at ≤ page.old.at + row_room }
 {
     let numbers = [
         job as u64,
@@ -88,20 +75,18 @@ fn put_row(job: u8, row: &Row, out: &mut [u8], at: usize) -> usize
         row.asked,
         row.since,
     ];
-    put_word_and_numbers(b"row", &numbers, out, at)
+    put_word_and_numbers(page, b"row", &numbers);
 }
 
 // Puts the lines of the live rows, in order of turn.
-fn put_rows(rows: &[Row; JOBS], line: &Line, out: &mut [u8], at: usize) -> usize
+fn put_rows(page: &mut Text, rows: &[Row; JOBS], line: &Line)
     requires lines { Lines rows.now line.now }
-    requires room { at + row_room * jobs ≤ length out.old }
-    ensures { Wrote out.old at (live_lines rows.now) result out.new }
+    requires room { Room page.old (row_room * jobs) }
+    ensures { Puts page.old (live_lines rows.now) page.new }
 {
-    let mut end = at;
     for &job in &line.jobs[..line.len] {
-        end = put_row(job, &rows[job as usize], out, end);
+        put_row(page, job, &rows[job as usize]);
     }
-    end
 }
 
 // Puts the page of a table at the front of out. What comes after it is kept; a refusal keeps all.
@@ -115,6 +100,8 @@ pub fn put_page(table: &Table, out: &mut [u8]) -> Result<usize, Refusal>
     if out.len() < PAGE {
         return Err(Refusal::WrongSize);
     }
-    let next = put_head(table, surveyed.line.len, out);
-    Ok(put_rows(&table.rows, &surveyed.line, out, next))
+    let mut page = Text { out, at: 0 };
+    put_head(&mut page, table, surveyed.line.len);
+    put_rows(&mut page, &table.rows, &surveyed.line);
+    Ok(page.at)
 }

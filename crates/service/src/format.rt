@@ -1,6 +1,8 @@
 // The numbers of the service file, and its fields by their names.
 ghost use Rattle.std.specs.Prelude.{◌≡◌};
-ghost use Rattle.service.specs.File.{head_named, head_order, row_named, row_order};
+ghost use Rattle.service.specs.File.{head_named, head_order, row_named, row_order, row_said};
+
+use rows::{Row, Turn};
 
 // The version that is written, and the only one that is read.
 pub const VERSION: u64 = 1;
@@ -108,5 +110,20 @@ impl From<FileRow> for [u64; 7] {
             row.since,
             row.zero,
         ]
+    }
+}
+
+// The row of a table that they describe.
+impl From<FileRow> for Row {
+    ghost from_gives = { λ said row. row ≡ row_said said };
+
+    fn from(said: FileRow) -> Row {
+        Row {
+            turn: Turn(said.turn),
+            declared: said.declared,
+            held: said.held,
+            asked: said.asked,
+            since: said.since,
+        }
     }
 }

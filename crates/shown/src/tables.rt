@@ -10,7 +10,7 @@ use stream::Printer;
 
 // Whether the numbers of a row are all 0.
 fn blank(row: &Row) -> bool {
-    row.turn.0 | row.declared | row.held | row.asked | row.since == 0
+    [row.turn.0, row.declared, row.held, row.asked, row.since] == [0; 5]
 }
 
 // A job and the numbers of its row.

@@ -3,13 +3,11 @@
 #![tactic(auto)]
 
 use arbiter::Table;
-use decision::Answer;
 use desk::put_refusal;
 use event::Refusal;
 use listing::Replay;
-use page::{PAGE, Shown};
+use page::PAGE;
 use record::SIZE;
-use saving::Saved;
 use stage::{Stage, begin};
 use std::env::Env;
 use stream::Printer;
@@ -27,7 +25,7 @@ fn show(rt: &(impl Input + Print + Eprint)) {
         return;
     };
     let mut room = [0u8; PAGE];
-    if let Shown::Length(shown) = desk::show(&file[..count], &mut room) {
+    if let Ok(shown) = desk::show(&file[..count], &mut room) {
         print(rt, &room, shown);
     }
 }
@@ -51,7 +49,7 @@ fn save_from(rt: &(impl Input + Print + Eprint), table: Table) {
     if blocks::take_all(rt, &mut replay, &mut room, |_| true).is_err() {
         return;
     }
-    if let Saved::Length(saved) = saving::save(replay.table, &mut room) {
+    if let Ok(saved) = saving::save(&replay.table, &mut room) {
         print(rt, &room, saved as usize);
     }
 }
@@ -64,8 +62,8 @@ fn save(rt: &HostRuntime) {
     };
     let next = begin(Replay::new().table, record::read(&bytes[..count]));
     match next.answer {
-        Answer::No(refusal) => refuse(&rt.stderr(), refusal),
-        _ => save_from(rt, next.table),
+        Err(refusal) => refuse(&rt.stderr(), refusal),
+        Ok(_) => save_from(rt, next.table),
     }
 }
 

@@ -1,6 +1,6 @@
 -- The three tests are the three cases, in their order.
 use Rattle.std.specs.Prelude.{◌≡◌}
-use Rattle.asking.specs.Prelude.{Seen, Surveyed, ◌∙◌, ap, bounds_of, fine, le-leb, live, lt-leb, none, not, not-false, outcome_is, past, report, row_in, seen_by_lem, sound, sound_by_lem, surveyed_by, sym, this, true}
+use Rattle.asking.specs.Prelude.{Seen, Surveyed, ◌∙◌, ap, bounds_of, fine, le-leb, live, lt-leb, none, not, outcome_is, past, report, row_in, seen_by_lem, sound, sound_by_lem, surveyed_by, sym, this, true}
 use Rattle.asking.proofs.Surveys.{report_is}
 use Rattle.asking.proofs.report.Goals as goal
 use Rattle.asking.proofs.report.Goals.{After-survey-s}

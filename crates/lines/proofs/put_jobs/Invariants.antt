@@ -4,4 +4,4 @@ use Rattle.lines.specs.PieceLaws.{Putting}
 use Rattle.lines.proofs.put_jobs.Given as goal
 
 abbrev pub invariant-loop-job : goal.invariant-loop-job
-invariant-loop-job l = Putting items l.jobs 4 l.initial.out l.at l.job-index l.end l.out
+invariant-loop-job l = Putting items l.jobs 4 l.initial.line l.job-index l.line

@@ -3,6 +3,6 @@ use Rattle.lines.specs.Lines.{word_text}
 use Rattle.lines.specs.Promises.{word_from}
 use Rattle.lines.proofs.put_word.Goals as goal
 
-pub returns-in-Err-clause-wrote : goal.returns-in-Err-clause-wrote
+pub returns-in-Err-clause-puts : goal.returns-in-Err-clause-puts
 unfolding word_from word_text
-returns-in-Err-clause-wrote c = rw (c.in-Err.is, ← c.from.ensures) c.put_no.ensures.wrote
+returns-in-Err-clause-puts c = rw (c.in-Err.is, ← c.from.ensures) c.put_no.ensures.puts

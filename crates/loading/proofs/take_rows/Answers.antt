@@ -39,8 +39,8 @@ returns-then-said-gt0 c = taking_stray c.row_at-said.result (next (goal.at.retur
 
 pub loop-i-preserved : goal.loop-i-preserved
 loop-i-preserved c =
-    taking_next c.row_at-said.result c.row_said-row.result (next (goal.at.loop-i-preserved c).After-row_at-said) (le-ltb 0 c.row_at-said.result.zero (omega arith))
-    c.row_said-row.ensures c.earlier.ensures c.live.ensures
+    taking_next c.row_at-said.result c.from-row.result (next (goal.at.loop-i-preserved c).After-row_at-said) (le-ltb 0 c.row_at-said.result.zero (omega arith))
+    c.from-row.ensures c.earlier.ensures c.live.ensures
 
 pub returns-then-fits : goal.returns-then-fits
 returns-then-fits c =

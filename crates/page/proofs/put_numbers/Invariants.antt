@@ -4,4 +4,4 @@ use Rattle.page.specs.Page.{number_room}
 use Rattle.page.proofs.put_numbers.Given as goal
 
 abbrev pub invariant-loop-n : goal.invariant-loop-n
-invariant-loop-n l = Putting items l.numbers number_room l.initial.out l.at l.n-index l.end l.out
+invariant-loop-n l = Putting items l.numbers number_room l.initial.page l.n-index l.page

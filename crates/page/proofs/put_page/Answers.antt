@@ -1,5 +1,6 @@
 -- The two tests are the two cases, in their order; the first line and the rows after it are the page.
 use Rattle.std.specs.Prelude.{◌≡◌, Ok, Result}
+use Rattle.std.proofs.lemmas.Grind.{common_steps}
 use Rattle.page.specs.Prelude.{Bounds, First, Lines, List, Refusal, Surveyed, Table, Wrote, ◌∙◌, ap, arith, bounds_of, fine, keep_unless, laid_front, leaves_is, le-ltb, length, lt-ltb, none, not, outcome_is, outcome_of, over, past, refl, sound, sound_by_lem, subst, sym, then, this, unless, wrote_length, zero-add, ℕ}
 use Rattle.page.specs.Meaning.{page_answer, page_cases, room_after}
 use Rattle.page.specs.Page.{page}
@@ -61,19 +62,19 @@ returns-then-out-lt-PAGE c =
     put_is a.table.now a.out.now
     (past (ap not (tells (goal.at.returns-then-out-lt-PAGE c).After-survey-surveyed ∙ c.if-not-surveyed.false)) (this (lt-ltb _ _ c.if-out-lt-PAGE.true))) refl refl
 
-pub put_head-next-requires : goal.put_head-next-requires
-put_head-next-requires c = record { live_value = (in_line (goal.at.put_head-next-requires c).Else-not-surveyed).number; head_room_in_bounds = omega (arith, c.if-out-lt-PAGE.false) }
+pub put_head-requires : goal.put_head-requires
+put_head-requires c = record { live_value = (in_line (goal.at.put_head-requires c).Else-not-surveyed).number; room = omega (arith, c.if-out-lt-PAGE.false) }
 
 pub put_rows-requires : goal.put_rows-requires
 put_rows-requires c =
-    let w = c.put_head-next.ensures in
-    record { lines = in_line (goal.at.put_rows-requires c).Else-not-surveyed; room = omega (arith, w.upper_bound, wrote_length w.wrote) }
+    let w = c.put_head.ensures in
+    record { lines = in_line (goal.at.put_rows-requires c).Else-not-surveyed; room = omega (arith, wrote_length w.puts.wrote) }
 
 pub returns : goal.returns
 unfolding page
 returns c =
-    let a = c.args in
-    let w = c.put_head-next.ensures in
-    let x = c.put_rows.ensures in
-    put_all a.table.now a.out.now
-    (past (ap not (tells (goal.at.returns c).After-survey-surveyed ∙ c.if-not-surveyed.false)) (past (le-ltb _ _ c.if-out-lt-PAGE.false) none)) (then w.wrote x)
+    let t = c.args.table.now in
+    let puts = then c.put_head.ensures.puts c.put_rows.ensures in
+    let clear = past (ap not (tells (goal.at.returns c).After-survey-surveyed ∙ c.if-not-surveyed.false)) (past (le-ltb _ _ c.if-out-lt-PAGE.false) none) in
+    let all = put_all t c.args.out.now clear puts.wrote in
+    grind (arith, common_steps, puts.same, all)

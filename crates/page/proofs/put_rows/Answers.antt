@@ -20,7 +20,7 @@ placed : (c : In-loop-job) → c.loop-job.job-index < length (line c.args.rows.n
 placed c = rw (← c.requires.lines.list) c.loop-job-test.true
 
 pub loop-job-init : goal.loop-job-init
-loop-job-init c = putting_none (line-pieces c.args.rows.now) (line c.args.rows.now) row_room c.args.out.now c.args.at (omega arith)
+loop-job-init c = putting_none (line-pieces c.args.rows.now) (line c.args.rows.now) row_room c.args.page.now (omega arith)
 
 pub bounds-rows-job : goal.bounds-rows-job
 bounds-rows-job c =
@@ -28,14 +28,14 @@ bounds-rows-job c =
     let at = (goal.at.bounds-rows-job c).In-loop-job in
     omega (arith, line_below c.args.rows.now c.loop-job.job-index (placed at), job_here at)
 
-pub put_row-end-requires : goal.put_row-end-requires
-put_row-end-requires c =
+pub put_row-requires : goal.put_row-requires
+put_row-requires c =
     let long : length c.args.rows.now ≡ jobs = search rules in
-    let at = (goal.at.put_row-end-requires c).In-loop-job in
+    let at = (goal.at.put_row-requires c).In-loop-job in
     omega (arith, length_lined_le c.args.rows.now (length c.args.rows.now), placed at, putting_length c.loop-job.invariant)
 
 pub loop-job-preserved : goal.loop-job-preserved
 loop-job-preserved c =
     let at = (goal.at.loop-job-preserved c).In-loop-job in
-    let w = c.put_row-end.ensures in
-    putting_more (line-pieces c.args.rows.now) 0 (placed at) (job_here at) c.loop-job.invariant w.wrote w.upper_bound
+    let w = c.put_row.ensures in
+    putting_more (line-pieces c.args.rows.now) 0 (placed at) (job_here at) c.loop-job.invariant w.puts w.upper_bound

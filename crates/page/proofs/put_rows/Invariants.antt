@@ -4,4 +4,4 @@ use Rattle.page.specs.Page.{row_lines, row_room}
 use Rattle.page.proofs.put_rows.Given as goal
 
 abbrev pub invariant-loop-job : goal.invariant-loop-job
-invariant-loop-job l = Putting (row_lines l.rows) (line l.rows) row_room l.initial.out l.at l.job-index l.end l.out
+invariant-loop-job l = Putting (row_lines l.rows) (line l.rows) row_room l.initial.page l.job-index l.page
