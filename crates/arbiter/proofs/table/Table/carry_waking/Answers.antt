@@ -31,7 +31,7 @@ pub returns-then-woken-lt-JOBS : goal.returns-then-woken-lt-JOBS
 returns-then-woken-lt-JOBS c =
     let t = c.args.self.now in
     let e = c.args.event in
-    refused_answers_into t e (change_on t e) _ _ ShortList (short_cases t e c.requires _ _ c.if-woken-lt-JOBS.true) (record { says = refl; hands = refl })
+    refused_answers_into t e (change_on t e) _ _ ShortList (short_cases t e c.requires _ _ (search rules)) (record { says = refl; hands = refl })
 
 pub found-requires : goal.found-requires
 found-requires c = last_seen c.args.self.now _ _ (surveyed (goal.at.found-requires c).After-survey-s)
@@ -39,7 +39,7 @@ found-requires c = last_seen c.args.self.now _ _ (surveyed (goal.at.found-requir
 pub returns-in_err-change : goal.returns-in_err-change
 returns-in_err-change c =
     let is : c.from_residual.result ≡ Err c.in_err-change.field-0.0 = search rules in
-    loud_refused c.args.self.now c.args.event c.requires c.if-woken-lt-JOBS.false (decides (goal.at.returns-in_err-change c).After-found)
+    loud_refused c.args.self.now c.args.event c.requires (search rules) (decides (goal.at.returns-in_err-change c).After-found)
     c.in_err-change.was is
 
 -- the change is that of the event
@@ -75,7 +75,7 @@ settle-count-requires-clause-acts c =
       subst (λ (p : Parts). Onward (row_of t.rows p.job) c.in_ok-change.change.row) job
           (subst (λ (x : Change). Onward (row_in t (job_of e)) x.row)
           (change_is (goal.at.settle-count-requires-clause-acts c).In_ok-change) (writes_onward t e c.requires ok acts)),
-      c.if-woken-lt-JOBS.false,
+      search rules,
     )
 
 pub returns : goal.returns
@@ -89,4 +89,4 @@ returns c =
     c.from-job.ensures
     (settled_by c.bounds-bounds.result t c.bounds-bounds.ensures c.settle-count.ensures) in
     let done = settling_does t e c.requires change _ _ _ _ (change_is at) settles refl refl in
-    accepted_answers_into t e (change_on t e) _ _ _ change (goes at ∙ sym (long_cases _ t e (change_on t e) c.if-woken-lt-JOBS.false)) done.0 done.1
+    accepted_answers_into t e (change_on t e) _ _ _ change (goes at ∙ sym (long_cases _ t e (change_on t e) (search rules))) done.0 done.1
