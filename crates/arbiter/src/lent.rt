@@ -51,7 +51,14 @@ impl Table {
         let change = found(&s, bounds.tokens, event)?;
         self.time = change.time;
         self.last = change.last;
-        let count = settle(&mut self.rows, &s.line, bounds, job as usize, change.row, woken);
+        let count = settle(
+            &mut self.rows,
+            &s.line,
+            bounds,
+            job as usize,
+            change.row,
+            woken,
+        );
         Ok(Answer::Woke(count))
     }
 }

@@ -1,4 +1,5 @@
-// Text written into a lent buffer: a number's decimal text, or any.
+// Text written into a lent buffer: a number's decimal text, or any. Buffer and place stay two parameters here: `lines::Text` and
+// `stream::Printer`, which keep them together, stand on these functions.
 #![tactic(auto)]
 
 ghost use Rattle.std.specs.Prelude.{◌+◌, ◌≤◌, ◌≡◌, length};

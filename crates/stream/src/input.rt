@@ -17,7 +17,7 @@ pub fn fill(rt: &(impl Input + Eprint), piece: &mut [u8]) -> Result<usize, ReadF
     ensures cut { IfErr result (λ failed. IsPrefixLen failed.count piece.new) }
 {
     let mut count = 0;
-    // each read says how far it came
+    // a `while`: each read says how far it came
     while count < piece.len() {
         match rt.reader().read(&mut piece[count..]) {
             Ok(0) => break,

@@ -7,10 +7,9 @@ use Rattle.loading.proofs.row_at.Goals as goal
 
 pub returns : goal.returns
 returns c =
-    let start = c in
-    let bs = start.args.file.now in
-    let from = head_size + row_size * start.args.i in
+    let bs = c.args.file.now in
+    let from = head_size + row_size * c.args.i in
     subst (λ (l : List ℕ). ReadRow l c.row_in.result)
     (take_all (length bs - from) (drop from bs) (omega (arith, length-drop from bs))
-    ∙ sym (drop-drop (row_size * start.args.i) head_size bs))
+    ∙ sym (drop-drop (row_size * c.args.i) head_size bs))
     c.row_in.ensures
