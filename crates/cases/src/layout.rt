@@ -111,6 +111,7 @@ fn row_at(bytes: &[u8; CASE], job: usize) -> Row
 fn rows_of(bytes: &[u8; CASE]) -> [Row; JOBS]
     ensures { RowsIn bytes.now result }
 {
+    // `array::from_fn` was tried: of what its closure holds at a later call nothing is known
     let mut rows = [rows::idle(); JOBS];
     for (job, row) in rows.iter_mut().enumerate() {
         *row = row_at(bytes, job);

@@ -72,7 +72,7 @@ fn put_word(line: &mut Text, answer: Result<Answer, Refusal>, woken: &[u8; JOBS]
     }
 }
 
-// Puts the line of a record.
+// Puts the line of a record. Buffer and place are two parameters here and below, since `going` and `listing` keep the place.
 pub fn put_line(
     number: u64,
     answer: Result<Answer, Refusal>,

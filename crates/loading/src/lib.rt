@@ -48,6 +48,7 @@ fn take_rows(file: &[u8], count: usize) -> Result<[Row; JOBS], Refusal>
         }
         let row = Row::from(said);
         let job = said.job as usize;
+        // `&` was kept: with `&&` the proof of the loop fell apart by cases
         fits &= earlier(passed, row.turn) & !live(rows[job]);
         passed = row.turn;
         rows[job] = row;

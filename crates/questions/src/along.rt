@@ -14,7 +14,8 @@ use request::{in_time_from, is_late};
 use rows::{Row, Turn, earlier};
 use soundness::Bounds;
 
-// How many live rows of lower turn declare some member of `s`.
+// How many live rows of lower turn declare some member of `s`. A `for` with a count: in the chain with `filter` and `count`,
+// which was tried, it stays open that each entry is a job.
 pub fn in_way(rows: &[Row; JOBS], line: &Line, turn: Turn, s: u64) -> u32
     requires { Lines rows.now line.now }
     ensures { result ≡ in_way rows.now turn.0 s }

@@ -10,7 +10,8 @@ use std::io::ErrorKind;
 const ROOM: usize = 65536;
 
 // Standard output, with a room at whose front `at` bytes wait, so that the system is called once for many of them; and how many
-// writes failed: after the first nothing is written any more.
+// writes failed: after the first nothing is written any more. That no failure is forgotten compares two moments, which an
+// invariant of the type cannot, so each function that prints says it.
 #[derive(Drop)]
 pub struct Printer<'a, R> {
     rt: &'a R,
