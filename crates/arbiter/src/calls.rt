@@ -112,7 +112,7 @@ impl Table {
         )
     }
 
-    // Any event; the only place that branches on its kind.
+    // Any event: each kind has a call of its own.
     pub fn apply(self, event: Event, woken: &mut [u8]) -> Next
         ensures { AnsweredInto self event woken.old result woken.new }
     {

@@ -78,7 +78,7 @@ fn write_left(written: Result<(), Refusal>, table: Table) -> Left
     }
 }
 
-// What any call leaves, with a list lent to it.
+// What any call leaves, with a list lent to it. A match, since each arm is a call of its own.
 pub fn left_by(case: Case, call: Call, table: Table, list: &mut [u8]) -> Left
     ensures value { result ≡ left case table list.old call }
     ensures list_after { list.new ≡ list_after case table list.old call }

@@ -86,7 +86,7 @@ impl Figures {
         }
     }
 
-    // The end of a wait: a woken job got its token if it waited for that before, else its set.
+    // The end of a wait: a woken job got what it waited for before, its token or its set.
     fn count_wait(&mut self, visit: &Visit, job: u8)
         ensures { self.new ≡ woken_in visit.now self.old job }
     {

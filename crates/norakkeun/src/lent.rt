@@ -1,5 +1,5 @@
 // The calls on a table that is lent: the events change it where it lies, the questions read it there. Each answers as the call
-// by value of the same name does.
+// by value of the same name does; `norakkeun.h` has both.
 ghost use Rattle.std.specs.Prelude.{◌≡◌, length};
 ghost use Rattle.event.specs.declared.events.Event.TheVariants.{Ask, Beat, Complete, GiveUp, Open, Release};
 ghost use Rattle.event.specs.Limits.{jobs};

@@ -57,7 +57,7 @@ pub struct LateJobs {
     pub count: u32,
 }
 
-// How many bytes of the lent room are the service file; with a refusal, 0.
+// How many bytes of the lent room are the service file; with a refusal, 0. A type beside `LateJobs`, since C has both.
 #[repr(C)]
 #[derive(Clone, Copy)]
 pub struct SavedFile {
@@ -162,7 +162,7 @@ impl From<Result<u32, Refusal>> for SavedFile {
     }
 }
 
-// What writing a record gave.
+// What writing a record gave. No `From`, since neither `u32` nor `Result` is a type of this crate.
 pub fn refusal_in(written: Result<(), Refusal>) -> u32
     ensures { result ≡ refusal_in (outcome_of written) }
 {

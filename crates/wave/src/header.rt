@@ -86,7 +86,8 @@ fn drive_start(printer: &mut Printer<impl Print + Eprint>, time: u64, refusals: 
     value(printer, b'x', refusals);
 }
 
-// The variables and their values after the first record. Without an accepted start, which leaves no resources, no job is shown.
+// The variables and their values after the first record. Without an accepted start there are no resources, and the mask is to be
+// empty, so that no job is shown.
 pub fn first(
     printer: &mut Printer<impl Print + Eprint>,
     mask: &[u8],
