@@ -1,5 +1,6 @@
 // Text written into a lent buffer: a number's decimal text, or any. Buffer and place stay two parameters here: `lines::Text` and
-// `stream::Printer`, which keep them together, stand on these functions.
+// `stream::Printer`, which keep them together, stand on these functions. No `Display`: firmware has no heap, and every byte of the
+// buffer is promised (`Wrote`).
 #![tactic(auto)]
 
 ghost use Rattle.std.specs.Prelude.{◌+◌, ◌≤◌, ◌≡◌, length};

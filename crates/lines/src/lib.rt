@@ -37,7 +37,7 @@ fn put_jobs(line: &mut Text, jobs: &[u8])
     }
 }
 
-// Puts `ok` and the first `count` jobs of a list, or all of them if there are fewer.
+// Puts `ok` and the first `count` jobs of a list, or all of them if there are fewer; the answer tells the count.
 fn put_ok(line: &mut Text, jobs: &[u8], count: u32)
     requires { Room line.old (3 + 4 * length jobs.now) }
     ensures puts { Puts line.old (word_text (ok (take count jobs.now))) line.new }

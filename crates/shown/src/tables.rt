@@ -55,7 +55,7 @@ fn table(printer: &mut Printer<impl Print + Eprint>, table: &Table)
     rows(printer, &table.rows);
 }
 
-// A part of what a call leaves.
+// A part of what a call leaves. A match, since a part is data that `left_by` promises.
 fn show_part(printer: &mut Printer<impl Print + Eprint>, part: Part, list: &[u8], after: &Table)
     ensures { printer.old.failures ≤ printer.new.failures }
 {

@@ -1,4 +1,5 @@
-// Whether numbers and rows are sound: the conditions of document 01, "What a table holds".
+// Whether numbers and rows are sound: the conditions of document 01, "What a table holds". Here and in `request`, `walk`,
+// `questions` and `hindering` tests are joined by `&`, with no branch between them: every call makes them for every row.
 #![tactic(auto)]
 
 ghost use Rattle.std.specs.Prelude.{◌&&◌, ◌≡◌};

@@ -11,12 +11,13 @@ const ROOM: usize = 65536;
 
 // Standard output, with a room at whose front `at` bytes wait, so that the system is called once for many of them; and how many
 // writes failed: after the first nothing is written any more. That no failure is forgotten compares two moments, which an
-// invariant of the type cannot, so each function that prints says it.
+// invariant of the type cannot, so each function that prints says it. `write!` would carry no such clause.
 #[derive(Drop)]
 pub struct Printer<'a, R> {
     rt: &'a R,
     room: [u8; ROOM],
     at: usize,
+    // A number, so that 'none is forgotten' is one `≤`.
     pub failures: u32,
     ghost fits: { at ≤ ROOM },
 }
