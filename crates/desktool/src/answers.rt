@@ -1,11 +1,12 @@
 // What each question says or keeps of a record, and what it says at the end.
 ghost use Rattle.std.specs.Prelude.{◌≤◌};
 
-use crate::following::{Answering, Desk};
+use crate::following::Answering;
 use event::JOBS;
 use figures::Figures;
 use follow::Visit;
 use lines::tokens_in;
+use listing::Replay;
 use rows::live_count;
 use stage::goes_on;
 use stream::Printer;
@@ -20,9 +21,9 @@ impl Answering for Explain {
         explain::line(printer, visit);
     }
 
-    fn end(&mut self, printer: &mut Printer<impl Print + Eprint>, desk: &Desk) {
-        let live = live_count(&desk.table.rows);
-        let used = tokens_in(desk.table.tokens, live);
+    fn end(&mut self, printer: &mut Printer<impl Print + Eprint>, replay: &Replay) {
+        let live = live_count(&replay.table.rows);
+        let used = tokens_in(replay.table.tokens, live);
         explain::end(printer, live as u64, used as u64);
     }
 }
@@ -36,8 +37,8 @@ impl Answering for Stats {
         self.0.count(visit);
     }
 
-    fn end(&mut self, printer: &mut Printer<impl Print + Eprint>, desk: &Desk) {
-        self.0.print(printer, desk.number, &desk.table);
+    fn end(&mut self, printer: &mut Printer<impl Print + Eprint>, replay: &Replay) {
+        self.0.print(printer, replay.number, &replay.table);
     }
 }
 
@@ -50,7 +51,7 @@ impl Answering for Jobs {
         self.0.count(visit);
     }
 
-    fn end(&mut self, printer: &mut Printer<impl Print + Eprint>, _desk: &Desk) {
+    fn end(&mut self, printer: &mut Printer<impl Print + Eprint>, _replay: &Replay) {
         self.0.mask(printer);
     }
 }
@@ -62,9 +63,9 @@ pub struct At;
 impl Answering for At {
     fn record(&mut self, _printer: &mut Printer<impl Print + Eprint>, _visit: &Visit) {}
 
-    fn end(&mut self, printer: &mut Printer<impl Print + Eprint>, desk: &Desk) {
-        if goes_on(desk.stage) {
-            state::print(printer, desk.number, &desk.table);
+    fn end(&mut self, printer: &mut Printer<impl Print + Eprint>, replay: &Replay) {
+        if goes_on(replay.stage) {
+            state::print(printer, replay.number, &replay.table);
         } else {
             state::print_none(printer);
         }
@@ -99,9 +100,9 @@ impl Answering for Wave {
     }
 
     // The end of the dump, if the first record was an accepted start.
-    fn end(&mut self, printer: &mut Printer<impl Print + Eprint>, desk: &Desk) {
-        if goes_on(desk.stage) {
-            wave::end(printer, desk.table.time);
+    fn end(&mut self, printer: &mut Printer<impl Print + Eprint>, replay: &Replay) {
+        if goes_on(replay.stage) {
+            wave::end(printer, replay.table.time);
         }
     }
 }

@@ -12,9 +12,9 @@ use stage::{Stage, begin};
 use std::env::Env;
 use stream::Printer;
 
-// Writes the first bytes of a room.
-fn print(rt: &(impl Print + Eprint), room: &[u8], count: usize) {
-    Printer::new(rt).write(&room[..count.min(room.len())]);
+// Writes a text.
+fn print(rt: &(impl Print + Eprint), text: &[u8]) {
+    Printer::new(rt).write(text);
 }
 
 // Prints what a service file says. A file that is longer than what is read here is refused just as its beginning is: no head
@@ -26,7 +26,7 @@ fn show(rt: &(impl Input + Print + Eprint)) {
     };
     let mut room = [0u8; PAGE];
     if let Ok(shown) = desk::show(&file[..count], &mut room) {
-        print(rt, &room, shown);
+        print(rt, room.get(..shown).unwrap_or(b""));
     }
 }
 
@@ -50,7 +50,7 @@ fn save_from(rt: &(impl Input + Print + Eprint), table: Table) {
         return;
     }
     if let Ok(saved) = saving::save(&replay.table, &mut room) {
-        print(rt, &room, saved as usize);
+        print(rt, room.get(..saved as usize).unwrap_or(b""));
     }
 }
 
@@ -60,7 +60,7 @@ fn save(rt: &HostRuntime) {
     let Ok(count) = stream::fill(rt, &mut bytes) else {
         return;
     };
-    let next = begin(Replay::new().table, record::read(&bytes[..count]));
+    let next = begin(Table::zero(), record::read(&bytes[..count]));
     match next.answer {
         Err(refusal) => refuse(&rt.stderr(), refusal),
         Ok(_) => save_from(rt, next.table),
