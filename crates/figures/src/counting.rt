@@ -2,7 +2,7 @@
 ghost use Rattle.std.specs.Prelude.{◌≡◌, fold};
 ghost use Rattle.figures.specs.Counting.{answered, counted, late_in, seen, with_late, with_named, woken_in};
 
-use crate::sheet::{Figures, Stamp};
+use crate::sheet::{Figures, Stamp, add_one};
 use arbiter::Table;
 use asking::overdue;
 use event::{JOBS, Parts, Tick, forward};
@@ -79,9 +79,9 @@ impl Figures {
             return;
         }
         let figures = &mut self.jobs[job];
-        figures.named = figures.named.saturating_add(1);
+        add_one(&mut figures.named);
         match visit.answer {
-            Err(_) => figures.refusals = figures.refusals.saturating_add(1),
+            Err(_) => add_one(&mut figures.refusals),
             Ok(_) => figures.accept(parts.kind, visit.after.time),
         }
     }

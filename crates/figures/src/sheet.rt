@@ -1,7 +1,7 @@
 // The figures that are kept: those of each job, and what is counted in all.
-ghost use Rattle.std.specs.Prelude.{◌≡◌};
+ghost use Rattle.std.specs.Prelude.{◌≡◌, max};
 ghost use Rattle.event.specs.Refusals.{number_of};
-ghost use Rattle.figures.specs.Sheet.{accepted_at, late_at, no_figures, raised, refused_as, waited};
+ghost use Rattle.figures.specs.Sheet.{accepted_at, late_at, more, no_figures, raised, refused_as, waited};
 
 use event::{JOBS, Kind, Refusal};
 use follow::State;
@@ -54,6 +54,20 @@ pub struct Figures {
     pub(crate) most_tokens: u64,
 }
 
+// Counts one more, as long as there are numbers.
+pub fn add_one(count: &mut u64)
+    ensures { count.new ≡ more count.old }
+{
+    *count = count.saturating_add(1);
+}
+
+// Keeps the greater of a figure and a number.
+fn keep_greater(figure: &mut u64, number: u64)
+    ensures { figure.new ≡ max figure.old number }
+{
+    *figure = (*figure).max(number);
+}
+
 impl JobFigures {
     // An accepted event that names the job.
     pub fn accept(&mut self, kind: Kind, time: u64)
@@ -61,12 +75,12 @@ impl JobFigures {
     {
         match kind {
             Kind::Open => {
-                self.openings = self.openings.saturating_add(1);
+                add_one(&mut self.openings);
                 self.opened = time;
             }
             Kind::Complete => {
-                self.completions = self.completions.saturating_add(1);
-                self.request = self.request.max(time.saturating_sub(self.opened));
+                add_one(&mut self.completions);
+                keep_greater(&mut self.request, time.saturating_sub(self.opened));
             }
             _ => {}
         }
@@ -77,8 +91,8 @@ impl JobFigures {
         ensures { self.new ≡ waited state long self.old }
     {
         match state {
-            State::WaitsForToken => self.token_wait = self.token_wait.max(long),
-            State::WaitsForSet => self.set_wait = self.set_wait.max(long),
+            State::WaitsForToken => keep_greater(&mut self.token_wait, long),
+            State::WaitsForSet => keep_greater(&mut self.set_wait, long),
             State::Idle | State::HasToken => {}
         }
     }
@@ -93,11 +107,10 @@ impl JobFigures {
                 first: at,
                 last: at,
             },
-            Some(known) => Overdue {
-                records: known.records.saturating_add(1),
-                last: at,
-                ..known
-            },
+            Some(mut known) => {
+                add_one(&mut known.records);
+                Overdue { last: at, ..known }
+            }
         });
     }
 }
@@ -133,15 +146,15 @@ impl Figures {
         ensures { self.new ≡ refused_as self.old (number_of refusal) }
     {
         let number = u32::from(refusal) as usize;
-        self.refused = self.refused.saturating_add(1);
-        self.by_number[number] = self.by_number[number].saturating_add(1);
+        add_one(&mut self.refused);
+        add_one(&mut self.by_number[number]);
     }
 
     // How many requests are live and how many tokens in use.
     pub fn raise(&mut self, live: u64, tokens: u64)
         ensures { self.new ≡ raised self.old live tokens }
     {
-        self.most_live = self.most_live.max(live);
-        self.most_tokens = self.most_tokens.max(tokens);
+        keep_greater(&mut self.most_live, live);
+        keep_greater(&mut self.most_tokens, tokens);
     }
 }

@@ -55,7 +55,7 @@ fn job_lines(printer: &mut Printer<impl Print + Eprint>, table: &Table)
     ensures { printer.old.failures ≤ printer.new.failures }
 {
     let line = survey(&table.rows, table.bounds(), 0).line;
-    for job in &line.jobs[..line.len.min(JOBS)] {
+    for job in line.jobs.iter().take(line.len) {
         job_line(printer, table, *job);
     }
 }

@@ -1,5 +1,7 @@
 // What one record changes.
-ghost use Rattle.std.specs.Prelude.{◌≡◌, ◌≤◌};
+ghost use Rattle.std.specs.Prelude.{◌≡◌, ◌≤◌, min};
+ghost use Rattle.laws.specs.Lists.{count};
+ghost use Rattle.rows.specs.Order.{live};
 ghost use Rattle.wave.specs.Trace.{refused_after, trace_after};
 
 use crate::dump::{job_value, value};
@@ -13,7 +15,7 @@ use rows::live_count;
 use stream::Printer;
 
 // A dump: how many records had the true time of the last one, and how many were refused.
-#[derive(Clone, Copy, Default)]
+#[derive(Clone, Copy)]
 pub struct Trace {
     pub here: u64,
     pub refusals: u64,
@@ -68,7 +70,10 @@ fn jobs_in(printer: &mut Printer<impl Print + Eprint>, mask: &[u8], parts: Parts
 }
 
 // How many requests are live, and how many tokens are in use.
-fn in_use(table: &Table) -> (u64, u64) {
+fn in_use(table: &Table) -> (u64, u64)
+    ensures live { result.0 ≡ count live table.now.rows }
+    ensures tokens { result.1 ≡ min table.now.tokens (count live table.now.rows) }
+{
     let live = live_count(&table.rows);
     (live as u64, tokens_in(table.tokens, live) as u64)
 }

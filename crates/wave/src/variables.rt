@@ -1,4 +1,7 @@
 // What a dump shows of a job: its variables, and their values.
+ghost use Rattle.std.specs.Prelude.{◌≡◌, ◌==◌, get_or};
+ghost use Rattle.wave.specs.Views.{value_of, view_of};
+
 use arbiter::Table;
 use follow::{State, state_of};
 
@@ -66,7 +69,7 @@ impl Variable {
 // What a dump shows of a job.
 #[derive(Clone, Copy)]
 pub struct View {
-    state: u64,
+    state: State,
     declared: u64,
     held: u64,
     asked: u64,
@@ -74,16 +77,19 @@ pub struct View {
 
 impl View {
     // What it shows of a job of a table. One that no table has has no request.
-    pub fn of(table: &Table, job: u32) -> View {
+    pub fn of(table: &Table, job: u32) -> View
+        ensures { result ≡ view_of table.now job }
+    {
+        let state = state_of(table, job);
         match table.rows.get(job as usize) {
             None => View {
-                state: u64::from(State::Idle),
+                state,
                 declared: 0,
                 held: 0,
                 asked: 0,
             },
             Some(row) => View {
-                state: u64::from(state_of(table, job)),
+                state,
                 declared: row.declared,
                 held: row.held,
                 asked: row.asked,
@@ -92,11 +98,17 @@ impl View {
     }
 
     // The value of a variable.
-    pub fn value(&self, variable: Variable) -> u64 {
+    pub fn value(&self, variable: Variable) -> u64
+        ensures { result ≡ value_of variable self.now }
+    {
         match variable {
-            Variable::State => self.state,
-            Variable::Token => self.state / 2,
-            Variable::Waits => self.state % 2,
+            Variable::State => u64::from(self.state),
+            Variable::Token => {
+                u64::from(matches!(self.state, State::HasToken | State::WaitsForSet))
+            }
+            Variable::Waits => {
+                u64::from(matches!(self.state, State::WaitsForToken | State::WaitsForSet))
+            }
             Variable::Declared => self.declared,
             Variable::Held => self.held,
             Variable::Asked => self.asked,
@@ -105,6 +117,8 @@ impl View {
 }
 
 // Whether a job is shown: the mask has a 1 for it.
-pub fn shown(mask: &[u8], job: u32) -> bool {
+pub fn shown(mask: &[u8], job: u32) -> bool
+    ensures { result ≡ (get_or mask.now job 0 == 49) }
+{
     mask.get(job as usize) == Some(&b'1')
 }
