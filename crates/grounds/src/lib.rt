@@ -11,7 +11,7 @@ ghost use Rattle.grounds.specs.Refusals.{calling, time_from};
 use event::{HIGHEST, JOBS, Refusal, Tick};
 use laws::sets;
 use request::Seen;
-use rows::{Row, Turn, live};
+use rows::{Row, Turn, earlier, live};
 
 // 3, 4, then what is asked of the tick: the table, the job and the clock; else the next true time.
 pub fn enter(s: Seen, job: u32, tick: Tick) -> Result<u64, Refusal>
@@ -59,7 +59,7 @@ pub fn set_verdict(resources: u32, set: u64) -> Result<(), Refusal>
 pub fn turn_verdict(last: Turn) -> Result<(), Refusal>
     ensures { outcome_of result ≡ outcome (turn_cases last.0) tt }
 {
-    if last.0 == HIGHEST {
+    if !earlier(last, Turn(HIGHEST)) & !earlier(Turn(HIGHEST), last) {
         return Err(Refusal::TurnsSpent);
     }
     Ok(())

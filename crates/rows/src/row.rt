@@ -18,7 +18,7 @@ pub struct Row {
     pub since: u64,
 }
 
-// Whether `a` stands before `b`. Two turns are compared here and nowhere else.
+// Whether `a` stands before `b`. Turns are compared here and nowhere else.
 pub fn earlier(a: Turn, b: Turn) -> bool
     ensures { result ≡ ltb a.0 b.0 }
 {
