@@ -11,6 +11,10 @@ module _ (rows : List Row) {l : Line} (lines : Lines rows l) where
   entries = ap length lines.list
 
   module _ (long : length rows ≡ jobs) where
+    -- no longer than there are rows
+    pub line_fits : l.len ≤ jobs
+    line_fits = omega (arith, long, lines.number, length_lined_le rows (length rows))
+
     -- as many as there are rows, at most
     pub entries_fit : length (take l.len l.jobs) ≤ jobs
     entries_fit = omega (arith, long, entries, length_lined_le rows (length rows))
