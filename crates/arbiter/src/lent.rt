@@ -13,7 +13,7 @@ use pass::{Survey, survey};
 use sweep::settle;
 
 // What an event comes to on a table that was surveyed for it. The bound is a clause as at `decide`.
-fn found(s: &Survey, tokens: u32, event: Event) -> Result<Change, Refusal>
+pub fn found(s: &Survey, tokens: u32, event: Event) -> Result<Change, Refusal>
     requires { s.now.seen.sound ≡ true → s.now.seen.last.0 < 2 ^ 63 }
     ensures { Finds s.now tokens event result }
 {

@@ -5,4 +5,5 @@ mod calls;
 mod lent;
 mod table;
 
+pub use lent::found;
 pub use table::{Next, Report, Table};
