@@ -27,7 +27,7 @@ text_of word.Report = " report"
 
 -- the line of a word and these numbers, a blank before each
 abbrev pub says : Word → List ℕ → Line
-says word ns = record { word = word; numbers = padded ns }
+says word ns = record { word = word; mark = 32; numbers = padded ns }
 
 -- the line of a refusal
 abbrev pub refusal_line : ℕ → Line

@@ -45,10 +45,14 @@ impl Word {
 // How many numbers a line has at most.
 pub const NUMBERS: usize = 5;
 
-// A line: its word, and the numbers that it has.
+// What stands before each number of what a call says.
+const BLANK: u8 = b' ';
+
+// A line: its word, what stands before each of its numbers, and the numbers that it has.
 #[derive(Clone, Copy, Debug, PartialEq, Eq)]
 pub struct Line {
     pub word: Word,
+    pub mark: u8,
     pub numbers: [Option<u64>; NUMBERS],
 }
 
@@ -58,6 +62,7 @@ fn plain(word: Word) -> Line
 {
     Line {
         word,
+        mark: BLANK,
         numbers: [None; NUMBERS],
     }
 }
@@ -68,6 +73,7 @@ fn counted(word: Word, n: u32) -> Line
 {
     Line {
         word,
+        mark: BLANK,
         numbers: [Some(n as u64), None, None, None, None],
     }
 }
@@ -119,6 +125,7 @@ fn request(report: Report) -> Line
 {
     Line {
         word: Word::Report,
+        mark: BLANK,
         numbers: [
             Some(report.turn.0),
             Some(report.token as u64),

@@ -7,13 +7,13 @@ use stream::Printer;
 // What is said of input that is cut.
 pub const CUT: &[u8] = b"cut\n";
 
-// A line without its end: the word, and the numbers that it has, a blank before each.
+// A line without its end: the word, and the numbers that it has, each after the line's mark.
 pub fn line(printer: &mut Printer<impl Print + Eprint>, line: &Line)
     ensures { printer.old.failures ≤ printer.new.failures }
 {
     printer.text(line.word.text());
     for number in line.numbers.iter().flatten() {
-        printer.word(b" ", *number);
+        printer.word(&[line.mark], *number);
     }
 }
 
