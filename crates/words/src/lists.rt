@@ -1,20 +1,28 @@
 // Sets and lists of jobs.
-ghost use Rattle.std.specs.Prelude.{◌≤◌};
+ghost use Rattle.std.specs.Prelude.{[], cond, ◌∷◌, ◌≡◌, ◌≤◌};
 
 use event::MOST;
 use stream::Printer;
+
+// What stands before the next member: nothing before the first, then commas.
+fn mark_after(has: bool, mark: &'static [u8]) -> &'static [u8]
+    ensures { result.now ≡ cond has (44 ∷ []) mark.now }
+{
+    if has { b"," } else { mark }
+}
 
 // A set by its members, in order.
 pub fn set(printer: &mut Printer<impl Print + Eprint>, s: u64)
     ensures { printer.old.failures ≤ printer.new.failures }
 {
     printer.text(b"{");
-    let mut mark: &[u8] = b"";
+    let mut mark: &'static [u8] = b"";
     for member in 0..MOST {
-        if s >> member & 1 == 1 {
+        let has = s >> member & 1 == 1;
+        if has {
             printer.word(mark, member as u64);
-            mark = b",";
         }
+        mark = mark_after(has, mark);
     }
     printer.text(b"}");
 }
