@@ -2,3 +2,4 @@
 pub mod Counting
 pub mod Prelude
 pub mod Sheet
+pub mod SheetLaws
