@@ -31,14 +31,17 @@ impl Table {
         }
     }
 
-    // An event that wakes nobody.
+    // An event that wakes nobody. It is carried out where the answer's table lies, so that the table is copied once.
     fn taking(self, event: Event) -> Next
         requires { (about event).wakes ≡ false }
         ensures { Answered jobs self event result }
     {
-        let mut table = self;
-        let answer = table.carry(event);
-        Next { answer, table }
+        let mut next = Next {
+            answer: Ok(Answer::Done),
+            table: self,
+        };
+        next.answer = next.table.carry(event);
+        next
     }
 
     // An event that may wake others; who was woken is written to the lent list.
