@@ -1,10 +1,12 @@
 -- The rows of a file taken one by one, and what the tests of loading come to.
 use Rattle.std.specs.Prelude.{◌&&◌, ◌*◌, ◌+◌, ◌<◌, ◌||◌, ◌∷◌, ◌≡◌, ◌≤◌, Err, Ok, Result}
-use Rattle.loading.specs.Prelude.{BitSet, Bool, FileHead, FileRow, List, Refusal, Row, Table, UnsoundTable, [], ◌∙◌, and_assoc, and-true, any, ap, arith, drop, eq-eqb, eqb, false, fine, first, idle, jobs, le-ltb, length, length-replicate, length-set, live, lt-ltb, ltb, ne_eqb, none, not, number_of, outcome, outcome_is, outcome_of, past, refl, refused, refusing, replicate, row_of, set, sound, subst, sym, this, true, ℕ}
-use Rattle.service.specs.File.{ascend, bit_set, file_rows, good, head_in, head_size, known, once, placed, row_said, row_size, rows_in, table_in, table_of, table_read, version, wrong_size}
+use Rattle.loading.specs.Prelude.{BitSet, Bool, FileHead, FileRow, First, List, Next, Refusal, Row, Table, UnsoundTable, [], ◌∙◌, and_assoc, and-true, any, ap, arith, drop, eq-eqb, eqb, false, fine, first, idle, jobs, keep_unless, le-ltb, leaves_is, length, length-replicate, length-set, live, lt-ltb, ltb, ne_eqb, no_table, none, not, number_of, outcome, outcome_is, outcome_of, past, refl, refused, refusing, replicate, row_of, said_of, says_done, set, sound, subst, sym, this, true, unless, ℕ}
+use Rattle.service.specs.File.{ascend, bit_set, file_rows, good, head_in, head_size, known, once, placed, read_cases, row_said, row_size, rows_in, table_in, table_of, table_read, version, wrong_size}
 use Rattle.service.specs.Placing.{JobsBelow, fits, free}
 use Rattle.service.specs.PlacingLaws.{fits_all}
-use Rattle.loading.specs.Taking.{Taking, rows_taken, stray}
+use Rattle.loading.specs.Meaning.{load_answer, load_table}
+use Rattle.loading.specs.Promises.{Loaded}
+use Rattle.loading.specs.Taking.{Takes, Taking, rows_taken, stray}
 
 -- ---- Row by row
 
@@ -47,6 +49,11 @@ module _ {fs : List FileRow} {rows : List Row} {ok : Bool} {n : ℕ} (below : Jo
   unfolding fits
   fit_tested = sym (and-true ok) ∙ now.fit ∙ fits_all fs below
 
+  -- none of them with a bit set
+  pub taking_end : Takes fs rows ok false
+  unfolding placed
+  taking_end = record { places = now.places; fit = fit_tested; strays = sym none_stray }
+
   pub taking_fit : ok ≡ true → fine rows ≡ rows_taken fs
   unfolding placed rows_taken
   taking_fit fit = ap fine now.places ∙ outcome_is (placed (replicate jobs idle) fs) (past none_stray (past (ap not (sym fit_tested ∙ fit)) none))
@@ -73,6 +80,14 @@ unfolding outcome first
 taken_on true fit a x e = let z : ◌≡◌ {A = ℕ} 0 1 = cc in absurd (omega arith)
 taken_on false false a x e = let z : ◌≡◌ {A = ℕ} 0 1 = cc in absurd (omega arith)
 taken_on false true a x e = (refl, refl, cc)
+
+-- ---- What the first case that applies says of a load
+
+pub loaded_is :
+    (bs : List ℕ) {n : ℕ} {r : Next} → First (read_cases bs) n → said_of r.answer ≡ unless n says_done →
+    r.table ≡ keep_unless n no_table (table_in bs) → Loaded bs r
+unfolding load_answer load_table
+loaded_is bs f a h = record { says = a ∙ outcome_is says_done f; hands = h ∙ leaves_is no_table (table_in bs) f }
 
 -- ---- What the head and the rows that were read say of the file
 
@@ -103,6 +118,22 @@ module _ (bs : List ℕ) (h : FileHead) (is : h ≡ head_in bs) where
 
       pub right_size : length bs ≡ head_size + row_size * h.count → wrong_size bs ≡ false
       right_size same = size_tested ∙ ap not (eq-eqb (length bs) (head_size + row_size * h.count) same)
+
+  -- what is known of rows that were taken is known of the file
+  module _ (rows : List Row) (ok bit : Bool) (takes : Takes (rows_in h.count (drop head_size bs)) rows ok bit) where
+    taken : Takes (file_rows bs) rows ok bit
+    taken = subst (λ (x : FileHead). Takes (rows_in x.count (drop head_size bs)) rows ok bit) is takes
+
+    pub zeros_tested : (ltb 0 h.zero || bit) ≡ bit_set bs
+    unfolding any
+    zeros_tested = λ i. ltb 0 (is i).zero || taken.strays i
+
+    pub table_read_lem : table_of h rows ≡ table_in bs
+    unfolding table_in
+    table_read_lem = λ i. table_of (is i) (taken.places i)
+
+    good_tested : (ok && sound (table_in bs)) ≡ good bs
+    good_tested = ap (λ (b : Bool). b && sound (table_in bs)) taken.fit
 
   module _ (size : wrong_size bs ≡ false) (one : known bs ≡ true) where
     bits : (b : Bool) → ltb 0 h.zero ≡ b → bit_set bs ≡ (b || stray (file_rows bs))

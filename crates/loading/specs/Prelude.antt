@@ -5,10 +5,10 @@ pub use Rattle.std.proofs.Common.{◌∙◌, ap, subst, sym, arith, eq-eqb, le-l
 pub use Rattle.std.proofs.Math.Nat.{sub-zero}
 pub use Rattle.std.proofs.lemmas.Bool.{not-false}
 pub use Rattle.std.proofs.lemmas.List.{length-replicate}
-pub use Rattle.laws.specs.CaseLaws.{acceptance_tells, clear, outcome_is, refusal_tells}
+pub use Rattle.laws.specs.CaseLaws.{acceptance_tells, clear, leaves_is, outcome_is, refusal_tells}
 pub use Rattle.laws.specs.Cases.{fine, keep_unless, refused, unless}
 unfoldable pub use Rattle.laws.specs.Cases.{case, first, leaves, outcome}
-pub use Rattle.laws.specs.Chains.{none, past, this}
+pub use Rattle.laws.specs.Chains.{First, none, past, this}
 unfoldable pub use Rattle.laws.specs.Front.{over}
 unfoldable pub use Rattle.laws.specs.Lists.{any}
 pub use Rattle.event.specs.Limits.{jobs}

@@ -23,6 +23,12 @@ take_cases fs = refusing BitSet (stray fs) ∷ refusing UnsoundTable (not (ascen
 unfoldable pub rows_taken : List FileRow → Outcome (List Row)
 rows_taken fs = outcome (take_cases fs) (placed (replicate jobs idle) fs)
 
+-- The rows of a file were taken: each stands at the place of its job; whether their turns and jobs fit, and whether a bit is set.
+pub record Takes (fs : List FileRow) (rows : List Row) (ok bit : Bool) : Type 0 where
+  pub places : rows ≡ placed (replicate jobs idle) fs
+  pub fit : ok ≡ (ascend 0 fs && once fs)
+  pub strays : bit ≡ stray fs
+
 -- The rows before `left` were taken, the last of turn n: what they and the rest come to is what all of fs do.
 pub record Taking (fs left : List FileRow) (rows : List Row) (ok : Bool) (n : ℕ) : Type 0 where
   pub long : length rows ≡ jobs
