@@ -6,4 +6,4 @@ mod input;
 mod print;
 
 pub use input::{ReadFailed, fill};
-pub use print::Printer;
+pub use print::{Printer, write_out};

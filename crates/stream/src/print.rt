@@ -22,9 +22,9 @@ pub struct Printer<'a, R> {
     ghost fits: { at ≤ ROOM },
 }
 
-// Writes the bytes, unless a write failed before. A failure is said on standard error, but for a reader that has gone away:
-// that is no fault.
-fn hand_over(rt: &(impl Print + Eprint), failures: u32, bytes: &[u8]) -> u32
+// Writes the bytes straight out, unless a write failed before, and returns how many failed. A failure is said on standard
+// error, but for a reader that has gone away: that is no fault.
+pub fn write_out(rt: &(impl Print + Eprint), failures: u32, bytes: &[u8]) -> u32
     ensures { failures ≤ result }
 {
     if 0 < failures {
@@ -68,7 +68,7 @@ impl<'a, R: Print + Eprint> Printer<'a, R> {
         ensures room { self.new.room ≡ self.old.room }
         ensures kept { self.old.failures ≤ self.new.failures }
     {
-        self.failures = hand_over(self.rt, self.failures, &self.room[..self.at]);
+        self.failures = write_out(self.rt, self.failures, &self.room[..self.at]);
         self.at = 0;
     }
 
@@ -90,7 +90,7 @@ impl<'a, R: Print + Eprint> Printer<'a, R> {
         ensures kept { self.old.failures ≤ self.new.failures }
     {
         self.flush();
-        self.failures = hand_over(self.rt, self.failures, bytes);
+        self.failures = write_out(self.rt, self.failures, bytes);
     }
 
     // Prints the bytes. They wait in the room, which is written first if they do not fit after what waits there; a text
