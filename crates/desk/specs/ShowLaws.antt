@@ -1,8 +1,22 @@
--- What reading a file says about what is shown of it.
+-- What reading or loading a file says about what is shown of it.
 use Rattle.std.specs.Prelude.{◌≡◌, ◌≤◌}
-use Rattle.desk.specs.Prelude.{First, List, Ok, PutPage, Refusal, Result, Table, Wrote, ◌∙◌, ap, fine, keep_unless, laid_front, le-ltb, leaves_is, length, none, not, outcome_is, outcome_of, over, page, page_answer, page_room, past, read_sound, refused, room_with_page, sym, table_read, unless, zero-add, ℕ}
+use Rattle.desk.specs.Prelude.{Err, First, List, Loaded, Next, Ok, PutPage, Refusal, Result, Said, Table, Wrote, ◌∙◌, acceptance_tells, ap, fine, keep_unless, laid_front, le-ltb, leaves_is, length, load_answer, load_table, no_table, none, not, number_of, outcome_is, outcome_of, over, page, page_answer, page_room, past, read_cases, read_sound, refusal_tells, refused, room_with_page, said_of, says_done, sym, table_in, table_read, unless, zero-add, ℕ}
 use Rattle.desk.specs.Desk.{reading, room_after, show_answer, show_cases, shown}
 use Rattle.desk.specs.Promises.{Shows}
+
+module _ (bs : List ℕ) (r : Next) (loaded : Loaded bs r) where
+  -- a refused load is a file that is not read
+  pub refused_reads : (n : Refusal) → r.answer ≡ Err n → table_read bs ≡ refused (number_of n)
+  unfolding table_read load_answer
+  refused_reads n told =
+      (refusal_tells (read_cases bs) says_done (number_of n) (sym loaded.says ∙ ap said_of told)).1 (table_in bs)
+
+  -- any other load hands back the table that is read
+  pub accepted_reads : (x : Said) → said_of r.answer ≡ fine x → table_read bs ≡ fine r.table
+  unfolding table_read load_answer load_table
+  accepted_reads x done =
+      let told = acceptance_tells (read_cases bs) says_done x (sym loaded.says ∙ done) in
+      told.2 (table_in bs) ∙ ap fine (sym (loaded.hands ∙ told.3 no_table (table_in bs)))
 
 module _ (bs before : List ℕ) where
   -- by the first case that applies, or by none

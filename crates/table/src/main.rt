@@ -10,11 +10,10 @@ use page::PAGE;
 use record::SIZE;
 use stage::{Stage, begin};
 use std::env::Env;
-use stream::Printer;
 
 // Writes a text.
 fn print(rt: &(impl Print + Eprint), text: &[u8]) {
-    Printer::new(rt).write(text);
+    stream::write_out(rt, 0, text);
 }
 
 // Prints what a service file says. A file that is longer than what is read here is refused just as its beginning is: no head
