@@ -1,7 +1,8 @@
 -- What taking the rows of a file comes to, and what holds on the way.
-use Rattle.std.specs.Prelude.{ℕ, Bool, not, ◌&&◌, List, [], ◌∷◌, map, ◌≡◌, ltb, length, replicate}
+use Rattle.std.specs.Prelude.{ℕ, Bool, not, ◌&&◌, List, [], ◌∷◌, map, ◌≡◌, ltb, length, replicate, Result, Ok, Err}
 use Rattle.event.specs.Limits.{jobs}
 use Rattle.event.specs.Refusals.{refusing}
+use Rattle.event.specs.declared.refusal.Refusal.{Refusal}
 use Rattle.event.specs.declared.refusal.Refusal.TheVariants.{BitSet, UnsoundTable}
 use Rattle.service.specs.File.{ascend, once, placed}
 use Rattle.service.specs.Placing.{fits}
@@ -10,6 +11,11 @@ use Rattle.laws.specs.Cases.{Case, Outcome, outcome}
 use Rattle.laws.specs.Lists.{any}
 use Rattle.rows.specs.Order.{idle}
 use Rattle.rows.specs.declared.row.Row.{Row}
+
+-- an answer beside what was lent: what is left there, or the refusal
+abbrev pub with_left : {A : Type 0} → Result Unit Refusal → A → Result A Refusal
+with_left (Ok u) a = Ok a
+with_left (Err r) a = Err r
 
 -- a bit of a row that must be 0 is 1
 abbrev pub stray : List FileRow → Bool

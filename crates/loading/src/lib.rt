@@ -1,20 +1,22 @@
 // A table out of its service file.
 #![tactic(auto)]
 
-ghost use Rattle.std.specs.Prelude.{◌+◌, ◌*◌, ◌≤◌, ◌≡◌, drop, length};
+ghost use Rattle.std.specs.Prelude.{◌+◌, ◌*◌, ◌≤◌, ◌≡◌, drop, length, replicate};
 ghost use Rattle.arbiter.specs.Sound.{sound};
+ghost use Rattle.event.specs.Limits.{jobs};
 ghost use Rattle.event.specs.Refusals.{outcome_of};
 ghost use Rattle.fields.specs.Fields.{Fit};
+ghost use Rattle.rows.specs.Order.{idle};
 ghost use Rattle.service.specs.File.{head_order, head_size, head_widths, row_size, rows_in, table_of, table_read};
 ghost use Rattle.service.specs.Promises.{ReadRow};
 ghost use Rattle.loading.specs.Promises.{Loaded};
-ghost use Rattle.loading.specs.Taking.{rows_taken};
+ghost use Rattle.loading.specs.Taking.{rows_taken, with_left};
 
 use arbiter::{Next, Table};
 use decision::Answer;
 use event::{JOBS, Refusal};
 use pass::survey;
-use rows::{Row, Turn, earlier, idle, live};
+use rows::{Row, Turn, earlier, live};
 use service::{FileHead, FileRow, HEAD, ROW, VERSION, head_in, row_in};
 
 // Whether a table is sound.
@@ -32,13 +34,13 @@ fn row_at(file: &[u8], i: usize) -> FileRow
     row_in(&file[HEAD + ROW * i..])
 }
 
-// This many rows of a file, each at the place of its job. A bit that must be 0 counts before the order of the rows, so rows
-// out of order are refused at the end.
-fn take_rows(file: &[u8], count: usize) -> Result<[Row; JOBS], Refusal>
-    requires { head_size + row_size * count ≤ length file.now }
-    ensures { outcome_of result ≡ rows_taken (rows_in count (drop head_size file.now)) }
+// This many rows of a file, each at the place of its job in the lent rows. A bit that must be 0 counts before the order of the
+// rows, so rows out of order are refused at the end.
+fn take_rows(file: &[u8], count: usize, rows: &mut [Row; JOBS]) -> Result<(), Refusal>
+    requires room { head_size + row_size * count ≤ length file.now }
+    requires idle { rows.old ≡ replicate jobs idle }
+    ensures { outcome_of (with_left result rows.new) ≡ rows_taken (rows_in count (drop head_size file.now)) }
 {
-    let mut rows = [idle(); JOBS];
     let mut fits = true;
     let mut passed = Turn(0);
     for i in 0..count {
@@ -54,30 +56,28 @@ fn take_rows(file: &[u8], count: usize) -> Result<[Row; JOBS], Refusal>
         rows[job] = row;
     }
     if fits {
-        Ok(rows)
+        Ok(())
     } else {
         Err(Refusal::UnsoundTable)
     }
 }
 
-// The table of a head and rows.
-fn table_of(head: FileHead, rows: [Row; JOBS]) -> Table
+// Writes the numbers of a head into a table, beside its rows.
+fn put_head(head: FileHead, table: &mut Table)
     requires { Fit (head_order head_widths) (head_order head) }
-    ensures { result ≡ table_of head rows }
+    ensures { table.new ≡ table_of head table.old.rows }
 {
-    Table {
-        tokens: head.tokens as u32 + 1,
-        resources: head.resources as u32 + 1,
-        limit: head.limit as u32,
-        time: head.time,
-        last: Turn(head.last),
-        rows,
-    }
+    table.tokens = head.tokens as u32 + 1;
+    table.resources = head.resources as u32 + 1;
+    table.limit = head.limit as u32;
+    table.time = head.time;
+    table.last = Turn(head.last);
 }
 
-// The table whose file these bytes are.
-pub fn table_in(file: &[u8]) -> Result<Table, Refusal>
-    ensures { outcome_of result ≡ table_read file.now }
+// Reads the table whose file these bytes are into a lent one whose rows are idle: each copy of a table is long.
+fn read_into(file: &[u8], table: &mut Table) -> Result<(), Refusal>
+    requires { table.old.rows ≡ replicate jobs idle }
+    ensures { outcome_of (with_left result table.new) ≡ table_read file.now }
 {
     if file.len() < HEAD {
         return Err(Refusal::WrongSize);
@@ -93,11 +93,20 @@ pub fn table_in(file: &[u8]) -> Result<Table, Refusal>
     if 0 < head.zero {
         return Err(Refusal::BitSet);
     }
-    let rows = take_rows(file, count)?;
-    let table = table_of(head, rows);
-    if !is_sound(&table) {
+    take_rows(file, count, &mut table.rows)?;
+    put_head(head, &mut *table);
+    if !is_sound(&*table) {
         return Err(Refusal::UnsoundTable);
     }
+    Ok(())
+}
+
+// The table whose file these bytes are.
+pub fn table_in(file: &[u8]) -> Result<Table, Refusal>
+    ensures { outcome_of result ≡ table_read file.now }
+{
+    let mut table = Table::zero();
+    read_into(file, &mut table)?;
     Ok(table)
 }
 
@@ -105,11 +114,12 @@ pub fn table_in(file: &[u8]) -> Result<Table, Refusal>
 pub fn load(file: &[u8]) -> Next
     ensures { Loaded file.now result }
 {
-    match table_in(file) {
-        Ok(table) => Next {
-            answer: Ok(Answer::Done),
-            table,
-        },
-        Err(refusal) => Next::refused(Table::zero(), refusal),
+    let mut next = Next {
+        answer: Ok(Answer::Done),
+        table: Table::zero(),
+    };
+    if let Err(refusal) = read_into(file, &mut next.table) {
+        return Next::refused(Table::zero(), refusal);
     }
+    next
 }
