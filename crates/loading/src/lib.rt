@@ -74,7 +74,7 @@ fn put_head(head: FileHead, table: &mut Table)
     table.last = Turn(head.last);
 }
 
-// Reads the table whose file these bytes are into a lent one whose rows are idle: each copy of a table is long.
+// The table whose file these bytes are, read into a lent one whose rows are idle: to hand it back would copy it once more.
 fn read_into(file: &[u8], table: &mut Table) -> Result<(), Refusal>
     requires { table.old.rows ≡ replicate jobs idle }
     ensures { outcome_of (with_left result table.new) ≡ table_read file.now }
