@@ -63,7 +63,7 @@ fn take_rows(file: &[u8], count: usize, rows: &mut [Row; JOBS]) -> Result<(), Re
 }
 
 // Writes the numbers of a head into a table, beside its rows.
-fn put_head(head: FileHead, table: &mut Table)
+fn take_head(head: FileHead, table: &mut Table)
     requires { Fit (head_order head_widths) (head_order head) }
     ensures { table.new ≡ table_of head table.old.rows }
 {
@@ -94,7 +94,7 @@ fn read_into(file: &[u8], table: &mut Table) -> Result<(), Refusal>
         return Err(Refusal::BitSet);
     }
     take_rows(file, count, &mut table.rows)?;
-    put_head(head, &mut *table);
+    take_head(head, &mut *table);
     if !is_sound(&*table) {
         return Err(Refusal::UnsoundTable);
     }

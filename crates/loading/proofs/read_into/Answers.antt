@@ -53,11 +53,11 @@ returns-then-not-is_sound c =
     let at = (goal.at.returns-then-not-is_sound c).Else-file-count in
     let rows = c.take_rows.new.rows in
     table_refused c.args.file.now _ c.head_in-head.ensures.is (sized at) (one at) (le-ltb 0 c.head_in-head.result.zero (omega arith)) (with_left c.take_rows.result rows) c.take_rows.ensures
-    rows (ap (λ (r : Result Unit Refusal). with_left r rows) c.in_ok-take_rows.was) c.put_head.new.table c.put_head.ensures (sym c.is_sound.ensures ∙ c.if-not-is_sound.true)
+    rows (ap (λ (r : Result Unit Refusal). with_left r rows) c.in_ok-take_rows.was) c.take_head.new.table c.take_head.ensures (sym c.is_sound.ensures ∙ c.if-not-is_sound.true)
 
 pub returns : goal.returns
 returns c =
     let at = (goal.at.returns c).Else-file-count in
     let rows = c.take_rows.new.rows in
     table_loaded c.args.file.now _ c.head_in-head.ensures.is (sized at) (one at) (le-ltb 0 c.head_in-head.result.zero (omega arith)) (with_left c.take_rows.result rows) c.take_rows.ensures
-    rows (ap (λ (r : Result Unit Refusal). with_left r rows) c.in_ok-take_rows.was) c.put_head.new.table c.put_head.ensures (sym c.is_sound.ensures ∙ c.if-not-is_sound.false)
+    rows (ap (λ (r : Result Unit Refusal). with_left r rows) c.in_ok-take_rows.was) c.take_head.new.table c.take_head.ensures (sym c.is_sound.ensures ∙ c.if-not-is_sound.false)
