@@ -69,11 +69,13 @@ fn save(rt: &HostRuntime) {
 fn main(rt: HostRuntime) {
     let mut word = [0u8; 4];
     let count = rt.arg(1, &mut word).unwrap_or(0);
-    match &word[..count] {
-        b"show" => show(&rt),
-        b"save" => save(&rt),
-        _ => {
-            let _ = rt.eprintln("usage: table show <FILE, or table save <RECORDING");
-        }
+    // `==`, whose law says that two words are the same; of a match on bytes only their number would be known
+    let word = &word[..count];
+    if word == b"show".as_slice() {
+        show(&rt);
+    } else if word == b"save".as_slice() {
+        save(&rt);
+    } else {
+        let _ = rt.eprintln("usage: table show <FILE, or table save <RECORDING");
     }
 }
