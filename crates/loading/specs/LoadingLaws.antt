@@ -1,12 +1,12 @@
 -- The rows of a file taken one by one, and what the tests of loading come to.
 use Rattle.std.specs.Prelude.{◌&&◌, ◌*◌, ◌+◌, ◌<◌, ◌||◌, ◌∷◌, ◌≡◌, ◌≤◌, Err, Ok, Result}
-use Rattle.loading.specs.Prelude.{BitSet, Bool, FileHead, FileRow, First, List, Next, Refusal, Row, Table, UnsoundTable, [], ◌∙◌, and_assoc, and-true, any, ap, arith, drop, eq-eqb, eqb, false, fine, first, idle, jobs, keep_unless, le-ltb, leaves_is, length, length-replicate, length-set, live, lt-ltb, ltb, ne_eqb, no_table, none, not, number_of, outcome, outcome_is, outcome_of, past, refl, refused, refusing, replicate, row_of, said_of, says_done, set, sound, subst, sym, this, true, unless, ℕ}
+use Rattle.loading.specs.Prelude.{BitSet, Bool, FileHead, FileRow, First, List, Next, Refusal, Row, Table, UnsoundTable, [], ◌∙◌, and_assoc, and-true, any, ap, arith, drop, eq-eqb, eqb, false, fine, first, idle, jobs, keep_unless, le-ltb, leaves, leaves_is, length, length-replicate, length-set, live, lt-ltb, ltb, ne_eqb, no_table, none, not, number_of, outcome, outcome_is, outcome_of, past, refl, refused, refusing, replicate, row_of, said_of, says_done, set, sound, subst, sym, this, true, unless, ℕ}
 use Rattle.service.specs.File.{ascend, bit_set, file_rows, good, head_in, head_size, known, once, placed, read_cases, row_said, row_size, rows_in, table_in, table_of, table_read, version, wrong_size}
 use Rattle.service.specs.Placing.{JobsBelow, fits, free}
 use Rattle.service.specs.PlacingLaws.{fits_all}
 use Rattle.loading.specs.Meaning.{load_answer, load_table}
 use Rattle.loading.specs.Promises.{Loaded}
-use Rattle.loading.specs.Taking.{Takes, Taking, rows_taken, stray}
+use Rattle.loading.specs.Taking.{Judges, Takes, Taking, judge_cases, rows_taken, stray}
 
 -- ---- Row by row
 
@@ -89,6 +89,11 @@ pub loaded_is :
 unfolding load_answer load_table
 loaded_is bs f a h = record { says = a ∙ outcome_is says_done f; hands = h ∙ leaves_is no_table (table_in bs) f }
 
+pub judged_is :
+    (t : Table) (ok : Bool) {n : ℕ} {r : Next} → First (judge_cases t ok) n → said_of r.answer ≡ unless n says_done →
+    r.table ≡ keep_unless n no_table t → Judges t ok r
+judged_is t ok f a h = record { says = a ∙ outcome_is says_done f; hands = h ∙ leaves_is no_table t f }
+
 -- ---- What the head and the rows that were read say of the file
 
 module _ (bs : List ℕ) (h : FileHead) (is : h ≡ head_in bs) where
@@ -134,6 +139,23 @@ module _ (bs : List ℕ) (h : FileHead) (is : h ≡ head_in bs) where
 
     good_tested : (ok && sound (table_in bs)) ≡ good bs
     good_tested = ap (λ (b : Bool). b && sound (table_in bs)) taken.fit
+
+    -- what is left to judge
+    pub judged_loads :
+        {r : Next} → wrong_size bs ≡ false → known bs ≡ true → bit_set bs ≡ false → (t : Table) → t ≡ table_in bs → Judges t ok r →
+        Loaded bs r
+    unfolding outcome leaves first load_answer load_table
+    judged_loads {r} size one clear t is-table j =
+        let same : first (judge_cases t ok) ≡ first (read_cases bs) =
+        rw (size, one, clear)
+        (ap (λ (u : Table). first (judge_cases u ok)) is-table
+        ∙ ap (λ (b : Bool). first (refusing UnsoundTable (not b) ∷ [])) good_tested) in
+        record {
+          says = j.says ∙ ap (λ (n : ℕ). unless n says_done) same;
+          hands =
+              j.hands ∙ ap (λ (n : ℕ). keep_unless n no_table t) same
+              ∙ ap (keep_unless (first (read_cases bs)) no_table) is-table;
+        }
 
   module _ (size : wrong_size bs ≡ false) (one : known bs ≡ true) where
     bits : (b : Bool) → ltb 0 h.zero ≡ b → bit_set bs ≡ (b || stray (file_rows bs))

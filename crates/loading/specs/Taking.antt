@@ -1,5 +1,10 @@
 -- What taking the rows of a file comes to, and what holds on the way.
 use Rattle.std.specs.Prelude.{ℕ, Bool, not, ◌&&◌, List, [], ◌∷◌, map, ◌≡◌, ltb, length, replicate, Result, Ok, Err}
+use Rattle.arbiter.specs.Answers.{said_of, says_done}
+use Rattle.arbiter.specs.Meaning.{no_table}
+use Rattle.arbiter.specs.Sound.{sound}
+use Rattle.arbiter.specs.declared.table.Next.{Next}
+use Rattle.arbiter.specs.declared.table.Table.{Table}
 use Rattle.event.specs.Limits.{jobs}
 use Rattle.event.specs.Refusals.{refusing}
 use Rattle.event.specs.declared.refusal.Refusal.{Refusal}
@@ -7,7 +12,7 @@ use Rattle.event.specs.declared.refusal.Refusal.TheVariants.{BitSet, UnsoundTabl
 use Rattle.service.specs.File.{ascend, once, placed}
 use Rattle.service.specs.Placing.{fits}
 use Rattle.service.specs.declared.format.FileRow.{FileRow}
-use Rattle.laws.specs.Cases.{Case, Outcome, outcome}
+use Rattle.laws.specs.Cases.{Case, Outcome, leaves, outcome}
 use Rattle.laws.specs.Lists.{any}
 use Rattle.rows.specs.Order.{idle}
 use Rattle.rows.specs.declared.row.Row.{Row}
@@ -41,3 +46,12 @@ pub record Taking (fs left : List FileRow) (rows : List Row) (ok : Bool) (n : �
   pub places : placed rows left ≡ placed (replicate jobs idle) fs
   pub fit : (ok && fits n rows left) ≡ fits 0 (replicate jobs idle) fs
   pub strays : stray left ≡ stray fs
+
+-- when a table is refused, given whether its rows fit
+abbrev pub judge_cases : Table → Bool → List Case
+judge_cases t ok = refusing UnsoundTable (not (ok && sound t)) ∷ []
+
+-- The table was judged, given whether its rows fit.
+pub record Judges (t : Table) (ok : Bool) (r : Next) : Type 0 where
+  pub says : said_of r.answer ≡ outcome (judge_cases t ok) says_done
+  pub hands : r.table ≡ leaves (judge_cases t ok) no_table t
